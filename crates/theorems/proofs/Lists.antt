@@ -1,0 +1,34 @@
+-- Every member of a list has G; and two constructors are never equal.
+use Prim.Native.Nat.{ℕ}
+use native.Mathlib.Omega.{arith}
+use mathlib.Core.Path.{_≡_}
+use mathlib.Core.List.{List, [], _∷_, _++_}
+use lib.ListN.{getD}
+
+module _ {A : Type 0} where
+  abbrev pub All : (A → Type 0) → List A → Type 0
+  All G [] = Unit {0}
+  All G (a ∷ l) = G a × All G l
+
+module _ {A : Type 0} (G : A → Type 0) where
+  pub all-append : (l m : List A) → All G l → All G m → All G (l ++ m)
+  all-append [] m h g = g
+  all-append (a ∷ l) m h g = (h .0, all-append l m (h .1) g)
+
+  pub all-getD : (l : List A) (i : ℕ) (d : A) → All G l → G d → G (getD l i d)
+  all-getD [] i d h g = g
+  all-getD (a ∷ l) ℕ.zero d h g = h .0
+  all-getD (a ∷ l) (ℕ.suc i) d h g = all-getD l i d (h .1) g
+
+  pub all-map : (H : A → Type 0) → ((a : A) → G a → H a) → (l : List A) → All G l → All H l
+  all-map H f [] h = tt
+  all-map H f (a ∷ l) h = (f a (h .0), all-map H f l (h .1))
+
+-- the rows of a table, one below the other, each with its proof
+infixr 5 _&_
+pub _&_ : {A B : Type 0} → A → B → A × B
+a & b = (a, b)
+
+-- equations that cannot all hold prove this one, by `cc`
+pub clash : _≡_ {A = ℕ} 0 1 → ⊥
+clash e = omega arith
