@@ -23,13 +23,13 @@ unfoldable pub checkedNumbers : Checked → List ℕ
 checkedNumbers (Stands k i) = 0 ∷ (k ∷ (i .0 ∷ []))
 checkedNumbers (Falls n p) = n ∷ (p ∷ [])
 
--- the fixed lengths of an evaluation's scratch: rows, forms, bindings, base, tokens, listing (docs/SCRATCH.md)
+-- the fixed lengths of an evaluation's scratch: listing, forms, patterns, phrases, base, bindings, tokens (docs/SCRATCH.md)
 abbrev pub evaluationLengths : List ℕ
-evaluationLengths = 6784 ∷ (4610 ∷ (16384 ∷ (1088 ∷ (11264 ∷ (13830 ∷ [])))))
+evaluationLengths = 13830 ∷ (4610 ∷ (640 ∷ (6144 ∷ (1088 ∷ (16384 ∷ (11264 ∷ []))))))
 
--- the fixed lengths of a check's scratch: rows, forms, names, base
+-- the fixed lengths of a check's scratch: names, forms, patterns, phrases, base
 abbrev pub checkLengths : List ℕ
-checkLengths = 6784 ∷ (12290 ∷ (5120 ∷ (576 ∷ [])))
+checkLengths = 5120 ∷ (12290 ∷ (640 ∷ (6144 ∷ (576 ∷ []))))
 
 -- each buffer is as long as fixed
 unfoldable pub enough : List ℕ → List (List ℕ) → Bool
