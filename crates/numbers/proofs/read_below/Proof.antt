@@ -1,0 +1,34 @@
+-- What was read is a number, which the test holds below its limit, or a refusal, which is handed on.
+use Rattle.language.specs.Numbers.{below, then, check}
+use borrow.Author.Tests.{lt-ltb, le-ltb}
+use borrow.Author.Needs.{needs}
+use Rattle.numbers.proofs.read_below.Statement.{statement}
+use Rattle.numbers.proofs.read_below.Tie as tie
+use Rattle.numbers.proofs.read_below.Reads as reads
+use Rattle.numbers.proofs.read_below.Lts as lts
+use Rattle.numbers.proofs.read.Reads as read-reads
+
+read-requires : tie.Need-read-requires
+read-requires c κs = search needs
+
+enum-known-v : tie.Need-enum-known-v
+enum-known-v c = search needs
+
+returns : tie.Need-returns
+unfolding below then check
+returns c = simp (lt-ltb _ _ (c .if1 .taken), c .before .before .v .given .1, ← c .before .before .before .before .read .ensures)
+
+enum-known-why : tie.Need-enum-known-why
+enum-known-why c = search needs
+
+returns-2 : tie.Need-returns-2
+unfolding below then check
+returns-2 c = simp (le-ltb _ _ (c .if1 .left), c .before .before .v .given .1, ← c .before .before .before .before .read .ensures)
+
+returns-3 : tie.Need-returns-3
+unfolding below then check
+returns-3 c = simp (c .before .why .given .1, ← c .before .before .before .read .ensures)
+
+pub read-below-spec : {M : Type 1} → statement M
+read-below-spec =
+    tie.close (tie.spec read-requires enum-known-v returns enum-known-why returns-2 returns-3)
