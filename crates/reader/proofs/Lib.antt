@@ -3,7 +3,7 @@ pub mod Ends
 pub mod Alls
 -- two readings of the same bytes that agree, part by part
 pub mod Saying
-pub mod Naming
+pub mod PropSaying
 pub mod PatternSaying
 pub mod Cells
 pub mod PhraseSaying

@@ -18,7 +18,7 @@ use Rattle.reader.specs.Reading.{nameRef, smallRow, patternRowKinds, pat
 use Rattle.reader.specs.Stands.{Named, PatternRow, any-row, exactly-row, not-row, join-row, PatternRows}
 use Rattle.reader.proofs.Ends.{length-snoc, old-or-last, old-at, last-at}
 use Rattle.reader.proofs.Saying.{Says, said, refused, on-then, on-same, on-check, Alike, no-more, and-then, on-record}
-use Rattle.reader.proofs.Naming.{Names, name-says}
+use Rattle.reader.proofs.PropSaying.{Names, name-says}
 
 -- a reference as its number, and what it names
 pub on-named : {B : Type 0} {R : ℕ → B → Type 0} (f : ℕ → B) (g : Got ℕ) → ((p at : ℕ) → g ≡ got p at → R p (f p)) → Says R g (then g (λ p. got (f p)))

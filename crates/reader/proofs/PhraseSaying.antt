@@ -20,7 +20,7 @@ use Rattle.reader.specs.Stands.{All, Named, Earlier, Expr, Dedu, ClauseO
 use Rattle.reader.proofs.Ends.{length-snoc, old-or-last, old-at, last-at}
 use Rattle.reader.proofs.Alls.{all-snoc}
 use Rattle.reader.proofs.Saying.{Says, said, refused, on-then, on-same, on-check, so, on-times, Alike, no-more, and-then, on-record}
-use Rattle.reader.proofs.Naming.{Names, name-says}
+use Rattle.reader.proofs.PropSaying.{Names, name-says}
 use Rattle.reader.proofs.PatternSaying.{on-named}
 use Rattle.reader.proofs.Cells.{operands-2, operands-3, clauseBy, clauses-3}
 

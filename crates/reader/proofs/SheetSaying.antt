@@ -19,7 +19,7 @@ use Rattle.reader.specs.Reading.{Kept, keeping, nameRef, Props, naming, 
 use Rattle.reader.specs.Stands.{All, Named, Dedu, PatternRows, PhraseRows, Stands, ReadAs, read, unread}
 use Rattle.reader.proofs.Alls.{all-snoc}
 use Rattle.reader.proofs.Saying.{Says, said, refused, so, SaysKept, kept-said, kept-refused, on-keeping}
-use Rattle.reader.proofs.Naming.{name-says, NamedAs, named-said, named-refused, naming-says}
+use Rattle.reader.proofs.PropSaying.{name-says, NamedAs, named-said, named-refused, naming-says}
 use Rattle.reader.proofs.PatternSaying.{pattern-row-says, pattern-rows-snoc}
 use Rattle.reader.proofs.PhraseSaying.{dedu-says, phrase-row-says}
 use Rattle.reader.proofs.PhraseRows.{phrase-rows-snoc}
