@@ -29,7 +29,7 @@ evaluationLengths = 13830 ∷ (4610 ∷ (640 ∷ (6144 ∷ (1088 ∷ (16384 ∷ 
 
 -- the fixed lengths of a check's scratch: names, forms, patterns, phrases, base
 abbrev pub checkLengths : List ℕ
-checkLengths = 5120 ∷ (12290 ∷ (640 ∷ (6144 ∷ (576 ∷ []))))
+checkLengths = 4608 ∷ (12290 ∷ (640 ∷ (6144 ∷ (576 ∷ []))))
 
 -- each buffer is as long as fixed
 unfoldable pub enough : List ℕ → List (List ℕ) → Bool

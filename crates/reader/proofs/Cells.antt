@@ -6,7 +6,7 @@ use mathlib.Core.List.{List, [], _∷_, _++_, map, append-assoc}
 use lib.ListN.{length, getD, take, drop, replicate, length-append}
 use lib.Seq.{take-append-seam}
 use Rattle.language.specs.Syntax.{Pattern, any, Clause}
-use Rattle.reader.specs.Rows.{flat, phraseCells, clausesOf}
+use Rattle.records.specs.Rows.{flat, phraseCells, clausesOf}
 use Rattle.reader.specs.Stands.{All, ClauseOf}
 
 -- the front of a list, where a shorter one stands in front

@@ -10,7 +10,7 @@ use Rattle.language.specs.Form.{Form}
 use Rattle.language.specs.Syntax.{Pattern, Phrase}
 use Rattle.words.specs.Front.{front}
 use Rattle.words.proofs.Fronts.{getD-front, length-front}
-use Rattle.reader.specs.Rows.{cell, flat, phraseCells}
+use Rattle.records.specs.Rows.{cell, flat, phraseCells}
 use Rattle.reader.specs.Buffers.{Holds}
 use Rattle.reader.specs.Stands.{prop-row, var-row, con-row, rule-row, function-row, method-row, call-row, let-row, fix-row, match-row, apply-row, assume-row, suppose-row, dlet-row, by-row, block-row, dmatch-row}
 use Rattle.reader.specs.Stands.{PatternRow, any-row, exactly-row, not-row, join-row, PatternRows, PhraseRow, PhraseRows}

@@ -1,3 +1,8 @@
+pub mod Naming
+pub mod Filling
+pub mod Stages
+pub mod Determined
+pub mod Widths
 -- lists
 pub mod Ends
 pub mod Alls

@@ -13,8 +13,8 @@ use Rattle.language.specs.Numbers.{Got, got, no, then, below}
 use Rattle.language.specs.Read.{binders, parts, small, patternRef, patternKinds, pattern}
 use Rattle.theorems.proofs.Reading.{ensured, ensures-below}
 use Rattle.forms.specs.Table.{tree}
-use Rattle.reader.specs.Rows.{cell, patternCells, patternBy, patternOf}
-use Rattle.reader.specs.Reading.{nameRef, smallRow, patternRowKinds, patternRow}
+use Rattle.records.specs.Rows.{cell, patternCells, patternBy, patternOf}
+use Rattle.records.specs.Reading.{nameRef, smallRow, patternRowKinds, patternRow}
 use Rattle.reader.specs.Stands.{Named, PatternRow, any-row, exactly-row, not-row, join-row, PatternRows}
 use Rattle.reader.proofs.Ends.{length-snoc, old-or-last, old-at, last-at}
 use Rattle.reader.proofs.Saying.{Says, said, refused, on-then, on-same, on-check, Alike, no-more, and-then, on-record}

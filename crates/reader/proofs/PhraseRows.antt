@@ -6,7 +6,7 @@ use mathlib.Core.List.{List, [], _∷_, _++_}
 use lib.ListN.{length, getD, List·getD-append}
 use Rattle.language.specs.Form.{Form}
 use Rattle.language.specs.Syntax.{Pattern, Phrase, phraseAt}
-use Rattle.reader.specs.Rows.{cell, phraseCells, phraseOf}
+use Rattle.records.specs.Rows.{cell, phraseCells, phraseOf}
 use Rattle.reader.specs.Stands.{Expr, Dedu, ClauseOf, PhraseRow, prop-row, var-row, con-row, rule-row, function-row, method-row, call-row, let-row, fix-row, match-row, apply-row, assume-row, suppose-row, dlet-row, by-row, block-row, dmatch-row, PhraseRows}
 use Rattle.reader.proofs.Ends.{length-snoc, old-or-last, old-at, last-at}
 use Rattle.reader.proofs.Alls.{all-map}

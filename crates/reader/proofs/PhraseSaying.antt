@@ -14,8 +14,8 @@ use Rattle.language.specs.Numbers.{Got, got, no, then, check, from, below, time
 use Rattle.language.specs.Read.{reference, isDeduction, phraseRef, exprRef, deduRef, fixed, pair, several, clause, clauses, blockOf, patternRef, phraseKinds, phrase}
 use Rattle.theorems.proofs.Reading.{ensured, ensures-from, ensures-below}
 use Rattle.forms.specs.Table.{tree}
-use Rattle.reader.specs.Rows.{cell, flat, phraseCells, sortBy, clausesOf, blockBy, phraseOf}
-use Rattle.reader.specs.Reading.{nameRef, rowRef, exprRow, deduRow, fixRow, oneRow, pairRow, severalRow, clauseRow, clausesRow, phraseRowKinds, phraseRow}
+use Rattle.records.specs.Rows.{cell, flat, phraseCells, sortBy, clausesOf, blockBy, phraseOf}
+use Rattle.records.specs.Reading.{nameRef, rowRef, exprRow, deduRow, fixRow, oneRow, pairRow, severalRow, clauseRow, clausesRow, phraseRowKinds, phraseRow}
 use Rattle.reader.specs.Stands.{All, Named, Earlier, Expr, Dedu, ClauseOf, PhraseRow, prop-row, var-row, con-row, rule-row, function-row, method-row, call-row, let-row, fix-row, match-row, apply-row, assume-row, suppose-row, dlet-row, by-row, block-row, dmatch-row, PhraseRows}
 use Rattle.reader.proofs.Ends.{length-snoc, old-or-last, old-at, last-at}
 use Rattle.reader.proofs.Alls.{all-snoc}

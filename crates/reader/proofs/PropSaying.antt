@@ -14,7 +14,7 @@ use Rattle.forms.specs.Interned.{position, having}
 use Rattle.forms.specs.Table.{tree, formed, Table}
 use Rattle.forms.proofs.Positions.{having-paid}
 use Rattle.forms.proofs.Growth.{tree-more, interned}
-use Rattle.reader.specs.Reading.{nameRef, wordKinds, wordAt, Props, named, naming}
+use Rattle.records.specs.Reading.{nameRef, wordKinds, wordAt, Props, named, naming}
 use Rattle.reader.specs.Stands.{Named}
 use Rattle.reader.proofs.Ends.{length-snoc, old-or-last, old-at, last-at}
 use Rattle.reader.proofs.Saying.{Says, said, refused, on-then, on-same, Alike, no-more, and-then, on-record}

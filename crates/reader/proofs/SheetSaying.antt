@@ -15,7 +15,7 @@ use Rattle.theorems.proofs.Reading.{ensured, ensures-from}
 use Rattle.forms.specs.Interned.{first}
 use Rattle.forms.specs.Table.{tree, Table}
 use Rattle.forms.proofs.Growth.{first-table}
-use Rattle.reader.specs.Reading.{Kept, keeping, nameRef, Props, naming, patternRow, phraseRow, Tables, Reading, onward, rootAt, afterBase, afterPhrases, afterPatterns, afterProps, untouched, reading}
+use Rattle.records.specs.Reading.{Kept, keeping, nameRef, Props, naming, patternRow, phraseRow, Tables, Reading, onward, rootAt, afterBase, afterPhrases, afterPatterns, afterProps, untouched, reading}
 use Rattle.reader.specs.Stands.{All, Named, Dedu, PatternRows, PhraseRows, Stands, ReadAs, read, unread}
 use Rattle.reader.proofs.Alls.{all-snoc}
 use Rattle.reader.proofs.Saying.{Says, said, refused, so, SaysKept, kept-said, kept-refused, on-keeping}

@@ -10,8 +10,8 @@ use Rattle.language.specs.Syntax.{Pattern, any, Phrase, phraseAt, Sheet}
 use Rattle.language.specs.Numbers.{Got, got, no}
 use Rattle.language.specs.Read.{binders, parts}
 use Rattle.forms.specs.Table.{tree, Table}
-use Rattle.reader.specs.Rows.{cell, flat, patternCells, phraseCells, patternOf, phraseOf}
-use Rattle.reader.specs.Reading.{Tables, Reading}
+use Rattle.records.specs.Rows.{cell, flat, patternCells, phraseCells, patternOf, phraseOf}
+use Rattle.records.specs.Reading.{Tables, Reading}
 
 -- every member has G
 unfoldable pub All : {A : Type 0} → (A → Type 0) → List A → Type 0

@@ -9,7 +9,7 @@ use Rattle.language.specs.Refusals.{out-of-range, wrong-reference, bytes-after}
 use Rattle.language.specs.Numbers.{Got, got, no, then, check, from, below, times, record-at}
 use Rattle.forms.specs.Word.{word}
 use Rattle.forms.specs.Interned.{position, having, first}
-use Rattle.reader.specs.Rows.{cell, flat, patternCells, phraseCells}
+use Rattle.records.specs.Rows.{cell, flat, patternCells, phraseCells}
 
 -- things read in a row, and where that ended: the next place, or a refusal
 pub record Kept (A : Type 0) : Type 0 where

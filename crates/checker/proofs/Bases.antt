@@ -1,0 +1,66 @@
+-- A base is a set: what a proof concludes depends on what is in the base, not on the order in which it stands there.
+use Prim.Native.Nat.{ℕ, zero, suc, _≤_, _<_}
+use mathlib.Core.Path.{_≡_, refl, sym, ap, ap₂, _∙_}
+use mathlib.Core.Bool.{Bool, true, false, _&&_, _||_}
+use mathlib.Core.List.{List, [], _∷_, _++_}
+use native.Mathlib.Omega.{arith}
+use lib.ListN.{length, getD, take}
+use lib.Seq.{take-suc}
+use Rattle.language.specs.Refusals.{premise-missing}
+use Rattle.language.specs.Form.{Form, cond, verum, bin, same, member, members}
+use Rattle.language.specs.Rules.{Ruled, gives, misshapen, ruled}
+use Rattle.language.specs.Numbers.{Got, got, no, then, check}
+use Rattle.language.specs.Check.{Node, ruleN, seqN, underN, ruledIn, concluded}
+use Rattle.forms.specs.Table.{tree}
+use Rattle.rules.specs.Base.{baseOf}
+
+-- two bases have the same propositions
+abbrev pub Alike : List Form → List Form → Type 0
+Alike β γ = (p : Form) → member p β ≡ member p γ
+
+alike-more : (β γ : List Form) (q : Form) → Alike β γ → Alike (q ∷ β) (q ∷ γ)
+unfolding member
+alike-more β γ q h p = ap (λ (b : Bool). same p q || b) (h p)
+
+members-alike : (β γ : List Form) → Alike β γ → (ps : List Form) → members ps β ≡ members ps γ
+unfolding members
+members-alike β γ h [] = refl
+members-alike β γ h (p ∷ ps) = ap₂ (λ (a b : Bool). a && b) (h p) (members-alike β γ h ps)
+
+ruled-alike : (β γ : List Form) → Alike β γ → (R : Ruled) (at : ℕ) → ruledIn R β at ≡ ruledIn R γ at
+unfolding ruledIn
+ruled-alike β γ h misshapen at = refl
+ruled-alike β γ h (gives ps q) at = ap (λ (b : Bool). check b premise-missing at (got q at)) (members-alike β γ h ps)
+
+then-alike : (g : Got Form) (f e : Form → ℕ → Got Form) → ((q : Form) (at : ℕ) → f q at ≡ e q at) → then g f ≡ then g e
+unfolding then
+then-alike (got q at) f e h = h q at
+then-alike (no n p) f e h = refl
+
+pub concluded-alike : (x : Node) (β γ : List Form) → Alike β γ → concluded β x ≡ concluded γ x
+unfolding concluded
+concluded-alike (ruleN at r ps) β γ h = ruled-alike β γ h (ruled r ps) at
+concluded-alike (seqN a b) β γ h =
+    ap (λ (g : Got Form). then g (λ p at. concluded (p ∷ β) b)) (concluded-alike a β γ h)
+    ∙ then-alike (concluded γ a) (λ p at. concluded (p ∷ β) b) (λ p at. concluded (p ∷ γ) b) (λ q at. concluded-alike b (q ∷ β) (q ∷ γ) (alike-more β γ q h))
+concluded-alike (underN p a) β γ h =
+    ap (λ (g : Got Form). then g (λ q at. got (bin cond p q) at)) (concluded-alike a (p ∷ β) (p ∷ γ) (alike-more β γ p h))
+
+-- the last of a list is in it
+member-last : (p q : Form) (xs : List Form) → member p (xs ++ (q ∷ [])) ≡ same p q || member p xs
+unfolding member
+member-last p q [] = refl
+member-last p q (x ∷ xs) = ap (λ (b : Bool). same p x || b) (member-last p q xs) ∙ turned (same p x) (same p q) (member p xs)
+  where
+    turned : (a b c : Bool) → a || (b || c) ≡ b || (a || c)
+    turned true true c = refl
+    turned true false c = refl
+    turned false b c = refl
+
+-- a stack whose numbers stand for some propositions, the first at the bottom, has the same propositions
+pub stack-alike : (fs : List Form) (s : List ℕ) (β : List Form) → ((j : ℕ) → j < length β → tree fs (getD s j 0) ≡ getD β j verum) → (b : ℕ) → b ≤ length β → Alike (baseOf fs s b) (take b β)
+unfolding baseOf member
+stack-alike fs s β h zero l p = refl
+stack-alike fs s β h (suc b) l p =
+    ap₂ (λ (x : Form) (y : Bool). same p x || y) (h b l) (stack-alike fs s β h b (omega arith) p)
+    ∙ sym (ap (member p) (take-suc β b verum l) ∙ member-last p (getD β b verum) (take b β))

@@ -1,0 +1,16 @@
+pub mod Readings
+pub mod Taking
+pub mod Nodes
+pub mod Stacks
+pub mod RuleNodes
+pub mod Meetings
+pub mod Opening
+pub mod Sequences
+pub mod Hypotheses
+pub mod Tallies
+pub mod Statements
+pub mod Judging
+pub mod Bases
+pub mod Certificates
+pub mod Passing
+pub mod SheetPassing

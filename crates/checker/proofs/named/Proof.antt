@@ -1,0 +1,20 @@
+-- A listing number is looked up among the names.
+use borrow.Author.Needs.{needs}
+use Rattle.checker.proofs.named.Statement.{statement}
+use Rattle.checker.proofs.named.Tie as tie
+use Rattle.checker.proofs.named.Reads as reads
+use Rattle.checker.proofs.named.Lts as lts
+use Rattle.checker.proofs.taken.Reads as taken-reads
+use Rattle.words.proofs.at.Reads as at-reads
+
+taken-requires : tie.Need-taken-requires
+taken-requires c κs = search needs
+
+at-requires : tie.Need-at-requires
+at-requires c κs = search needs
+
+returns : tie.Need-returns
+returns c = (rw (← c .before .taken .ensures .0) (c .at .ensures), c .before .taken .ensures .1)
+
+pub named-spec : {M : Type 1} → statement M
+named-spec = tie.close (tie.spec taken-requires at-requires returns)

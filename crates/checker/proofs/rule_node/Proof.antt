@@ -1,0 +1,45 @@
+-- The table is ready for the rule, and what it answers is the node's.
+use Rattle.checker.proofs.RuleNodes.{rule-ready, rule-walks}
+use borrow.Author.Needs.{needs}
+use Rattle.checker.proofs.rule_node.Statement.{statement}
+use Rattle.checker.proofs.rule_node.Tie as tie
+use Rattle.checker.proofs.rule_node.Reads as reads
+use Rattle.checker.proofs.rule_node.Lts as lts
+use Rattle.checker.proofs.answered.Reads as answered-reads
+use Rattle.checker.proofs.given.Reads as given-reads
+use Rattle.checker.proofs.taken.Reads as taken-reads
+use Rattle.language.proofs.arguments.Reads as arguments-reads
+use Rattle.rules.proofs.apply.Reads as apply-reads
+
+taken-requires : tie.Need-taken-requires
+taken-requires c κs = search needs
+
+arguments-requires : tie.Need-arguments-requires
+arguments-requires c κs = search needs
+
+given-requires : tie.Need-given-requires
+given-requires c κs = search needs
+
+apply-requires : tie.Need-apply-requires
+apply-requires c κs = rule-ready _ _ _ _ _ _ _ _ _ _ _ _ (c .before .before .before .taken .ensures) (c .before .before .arguments .ensures) (c .before .given .ensures) (c .before .before .before .before .before .before .before .before .pre)
+
+answered-requires : tie.Need-answered-requires
+answered-requires c κs = search needs
+
+same-length : tie.Need-same-length
+same-length c = search needs
+
+returns : tie.Need-returns
+returns c = rule-walks _ _ _ _ _ _ _ _ _ _ _ _ (c .before .before .before .before .before .before .before .taken .ensures) (c .before .before .before .before .before .before .arguments .ensures) (c .before .before .before .before .before .given .ensures) _ _ _ (c .before .before .before .apply .ensures) (c .answered .ensures)
+
+pub rule-node-spec : {M : Type 1} → statement M
+rule-node-spec =
+    tie.close
+    (tie.spec
+    taken-requires
+    arguments-requires
+    given-requires
+    apply-requires
+    answered-requires
+    same-length
+    returns)

@@ -1,0 +1,5 @@
+pub mod Places
+pub mod Walk
+pub mod Tally
+pub mod Judge
+pub mod Verdicts

@@ -1,0 +1,2 @@
+pub mod PhraseKinds
+pub mod OperandRuns

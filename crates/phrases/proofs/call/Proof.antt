@@ -1,0 +1,56 @@
+-- The kind and the expression begin the row; the arguments follow.
+use native.Mathlib.Omega.{arith}
+use Rattle.language.specs.Numbers.{then}
+use Rattle.records.proofs.References.{gotten-got, gotten-no}
+use Rattle.phrases.proofs.OperandRuns.{operand-fits, two-begun, two-taken}
+use borrow.Author.Needs.{needs}
+use Rattle.phrases.proofs.call.Statement.{statement}
+use Rattle.phrases.proofs.call.Tie as tie
+use Rattle.phrases.proofs.call.Reads as reads
+use Rattle.phrases.proofs.call.Lts as lts
+use Rattle.phrases.proofs.operand.Reads as operand-reads
+use Rattle.phrases.proofs.several.Reads as several-reads
+use Rattle.words.proofs.put.Reads as put-reads
+
+operand-requires : tie.Need-operand-requires
+operand-requires c κs = search needs
+
+enum-known-why : tie.Need-enum-known-why
+enum-known-why c = search needs
+
+enum-known-e : tie.Need-enum-known-e
+enum-known-e c = search needs
+
+put-requires : tie.Need-put-requires
+put-requires c κs = search needs
+
+put-requires-2 : tie.Need-put-requires-2
+put-requires-2 c κs = operand-fits _ _ _ (c .before .before .before .before .before .before .before .before .before .before .before .before .pre .1 .0) _ _ _ _ (gotten-got _ _ _ (c .before .before .before .before .before .before .e .given .1) (c .before .before .before .before .before .before .before .before .operand .ensures))
+
+several-requires : tie.Need-several-requires
+several-requires c κs = (two-begun _ _ _ (c .before .before .before .before .before .before .before .before .before .before .before .before .before .before .before .before .pre .0) (c .before .before .before .before .before .before .before .put .ensures) _ _ (c .before .before .before .put2 .ensures), (c .before .before .before .before .before .before .before .before .before .before .before .before .before .before .before .before .pre .1 .0, omega arith))
+
+returns : tie.Need-returns
+unfolding then
+returns c = rw (gotten-no _ _ _ (c .before .why .given .1) (c .before .before .before .operand .ensures))
+
+same-length : tie.Need-same-length
+same-length c = search needs
+
+returns-2 : tie.Need-returns-2
+unfolding then
+returns-2 c = rw (gotten-got _ _ _ (c .before .before .before .before .before .before .before .before .before .before .before .before .before .e .given .1) (c .before .before .before .before .before .before .before .before .before .before .before .before .before .before .before .operand .ensures), ← two-taken _ _ _ (c .before .before .before .before .before .before .before .before .before .before .before .before .before .before .before .before .before .before .before .pre .0) (c .before .before .before .before .before .before .before .before .before .before .put .ensures) _ _ (c .before .before .before .before .before .before .put2 .ensures)) (c .before .before .several .ensures)
+
+pub call-spec : {M : Type 1} → statement M
+call-spec =
+    tie.close
+    (tie.spec
+    operand-requires
+    enum-known-why
+    enum-known-e
+    put-requires
+    put-requires-2
+    several-requires
+    returns
+    same-length
+    returns-2)

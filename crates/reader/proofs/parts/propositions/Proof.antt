@@ -1,0 +1,56 @@
+-- The table starts with two words, and each proposition adds one at most.
+use Rattle.records.proofs.References.{gotten-got, gotten-no}
+use Rattle.reader.proofs.Naming.{part-room, part-refused, part-read}
+use borrow.Author.Needs.{needs}
+use Rattle.reader.proofs.parts.propositions.Statement.{statement}
+use Rattle.reader.proofs.parts.propositions.Tie as tie
+use Rattle.reader.proofs.parts.propositions.Reads as reads
+use Rattle.reader.proofs.parts.propositions.Lts as lts
+use Rattle.forms.proofs.start.Reads as start-reads
+use Rattle.numbers.proofs.read_from.Reads as read-from-reads
+use Rattle.reader.proofs.read_propositions.Reads as read-propositions-reads
+
+start-requires : tie.Need-start-requires
+start-requires c κs = search needs
+
+read-from-requires : tie.Need-read-from-requires
+read-from-requires c κs = search needs
+
+enum-known-why : tie.Need-enum-known-why
+enum-known-why c = search needs
+
+enum-known-count : tie.Need-enum-known-count
+enum-known-count c = search needs
+
+read-propositions-requires : tie.Need-read-propositions-requires
+read-propositions-requires c κs = part-room _ _ (c .before .before .before .before .before .before .before .before .before .before .before .before .before .args .forms .now) _ (c .before .before .before .before .before .before .before .before .before .before .before .before .before .pre .1) (c .before .before .before .before .before .before .before .before .start .ensures .1) _ _ _ (c .before .before .before .before .before .before .before .before .start .ensures .0) (gotten-got _ _ _ (c .before .before .before .count .given .1) (c .before .before .before .before .before .read-from .ensures)) (c .before .before .before .before .before .before .before .before .before .before .before .before .before .pre .0) (c .before .before .before .before .before .before .before .before .before .before .before .before .before .pre .2)
+
+same-length : tie.Need-same-length
+same-length c = search needs
+
+returns : tie.Need-returns
+returns c = part-refused _ _ _ _ (c .before .before .before .before .before .before .before .before .before .before .before .pre .1) (c .before .before .before .before .before .before .start .ensures .1) _ _ _ (c .before .before .before .before .before .before .start .ensures .0) (gotten-no _ _ _ (c .before .why .given .1) (c .before .before .before .read-from .ensures))
+
+same-length-2 : tie.Need-same-length-2
+same-length-2 c = search needs
+
+same-length-3 : tie.Need-same-length-3
+same-length-3 c = search needs
+
+returns-2 : tie.Need-returns-2
+returns-2 c = part-read _ _ _ _ (c .before .before .before .before .before .before .before .before .before .before .before .before .before .before .before .before .before .before .pre .1) (c .before .before .before .before .before .before .before .before .before .before .before .before .before .start .ensures .1) _ _ _ _ _ _ (c .before .before .before .before .before .before .before .before .before .before .before .before .before .start .ensures .0) (gotten-got _ _ _ (c .before .before .before .before .before .before .before .before .count .given .1) (c .before .before .before .before .before .before .before .before .before .before .read-from .ensures)) (c .before .before .before .before .read-propositions .ensures)
+
+pub propositions-spec : {M : Type 1} → statement M
+propositions-spec =
+    tie.close
+    (tie.spec
+    start-requires
+    read-from-requires
+    enum-known-why
+    enum-known-count
+    read-propositions-requires
+    same-length
+    returns
+    same-length-2
+    same-length-3
+    returns-2)

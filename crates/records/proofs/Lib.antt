@@ -1,0 +1,4 @@
+pub mod References
+pub mod ByKind
+pub mod Tables
+pub mod Once

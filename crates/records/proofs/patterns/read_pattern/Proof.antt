@@ -1,0 +1,58 @@
+-- A refusal lays nothing; a row that was read is laid behind the others.
+use Rattle.records.proofs.Tables.{put-refused, put-row}
+use borrow.Author.Needs.{needs}
+use Rattle.records.proofs.patterns.read_pattern.Statement.{statement}
+use Rattle.records.proofs.patterns.read_pattern.Tie as tie
+use Rattle.records.proofs.patterns.read_pattern.Reads as reads
+use Rattle.records.proofs.patterns.read_pattern.Lts as lts
+use Rattle.records.proofs.patterns.pattern_row.Reads as pattern-row-reads
+use Rattle.records.proofs.rows.lay.Reads as lay-reads
+
+slice-aggregate-pattern-row : tie.Need-slice-aggregate-pattern-row
+slice-aggregate-pattern-row c = search needs
+
+pattern-row-requires : tie.Need-pattern-row-requires
+pattern-row-requires c κs = search needs
+
+enum-known-why : tie.Need-enum-known-why
+enum-known-why c = search needs
+
+enum-known-next : tie.Need-enum-known-next
+enum-known-next c = search needs
+
+slice-aggregate-lay : tie.Need-slice-aggregate-lay
+slice-aggregate-lay c = search needs
+
+mul-lay : tie.Need-mul-lay
+mul-lay c = search needs
+
+lay-requires : tie.Need-lay-requires
+lay-requires c κs = search needs
+
+same-length : tie.Need-same-length
+same-length c = search needs
+
+returns : tie.Need-returns
+returns c = put-refused _ _ _ _ (c .before .before .before .before .pattern-row .ensures) _ _ _ _ (c .before .why .given .1)
+
+same-length-2 : tie.Need-same-length-2
+same-length-2 c = search needs
+
+returns-2 : tie.Need-returns-2
+returns-2 c = put-row _ _ _ _ (c .before .before .before .before .before .before .before .before .before .pattern-row .ensures) _ _ _ _ (search needs) (c .before .before .before .before .before .before .next .given .1) (c .before .before .lay .ensures)
+
+pub read-pattern-spec : {M : Type 1} → statement M
+read-pattern-spec =
+    tie.close
+    (tie.spec
+    slice-aggregate-pattern-row
+    pattern-row-requires
+    enum-known-why
+    enum-known-next
+    slice-aggregate-lay
+    mul-lay
+    lay-requires
+    same-length
+    returns
+    same-length-2
+    returns-2)

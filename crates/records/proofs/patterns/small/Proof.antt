@@ -1,0 +1,54 @@
+-- Both limits are tested; then the five numbers are stored, one after the other.
+use borrow.Author.Tests.{lt-leb, le-leb}
+use Rattle.language.specs.Numbers.{check}
+use Rattle.records.specs.Reading.{smallRow}
+use borrow.Author.Needs.{needs}
+use Rattle.records.proofs.patterns.small.Statement.{statement}
+use Rattle.records.proofs.patterns.small.Tie as tie
+use Rattle.records.proofs.patterns.small.Reads as reads
+use Rattle.records.proofs.patterns.small.Lts as lts
+use Rattle.words.proofs.put.Reads as put-reads
+
+returns : tie.Need-returns
+unfolding smallRow check
+returns c = simp (lt-leb _ _ (c .if1 .taken))
+
+returns-2 : tie.Need-returns-2
+unfolding smallRow check
+returns-2 c = simp (le-leb _ _ (c .before .before .if1 .left), lt-leb _ _ (c .if2 .taken))
+
+put-requires : tie.Need-put-requires
+put-requires c κs = search needs
+
+put-requires-2 : tie.Need-put-requires-2
+put-requires-2 c κs = search needs
+
+put-requires-3 : tie.Need-put-requires-3
+put-requires-3 c κs = search needs
+
+put-requires-4 : tie.Need-put-requires-4
+put-requires-4 c κs = search needs
+
+put-requires-5 : tie.Need-put-requires-5
+put-requires-5 c κs = search needs
+
+same-length : tie.Need-same-length
+same-length c = search needs
+
+returns-3 : tie.Need-returns-3
+unfolding smallRow check
+returns-3 c = simp (le-leb _ _ (c .before .before .before .before .before .before .before .before .before .before .before .before .before .before .before .before .before .before .before .before .before .before .if1 .left), le-leb _ _ (c .before .before .before .before .before .before .before .before .before .before .before .before .before .before .before .before .before .before .before .before .if2 .left), c .before .before .put5 .ensures, c .before .before .before .before .before .before .put4 .ensures, c .before .before .before .before .before .before .before .before .before .before .put3 .ensures, c .before .before .before .before .before .before .before .before .before .before .before .before .before .before .put2 .ensures, c .before .before .before .before .before .before .before .before .before .before .before .before .before .before .before .before .before .before .put .ensures, c .before .before .before .before .before .before .before .before .before .before .before .before .before .before .before .before .before .before .before .before .before .before .before .before .before .pre .0)
+
+pub small-spec : {M : Type 1} → statement M
+small-spec =
+    tie.close
+    (tie.spec
+    returns
+    returns-2
+    put-requires
+    put-requires-2
+    put-requires-3
+    put-requires-4
+    put-requires-5
+    same-length
+    returns-3)

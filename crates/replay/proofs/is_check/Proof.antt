@@ -1,0 +1,67 @@
+-- `replay::is_check` is safe: the bytes that were read are no more than there is room for.
+use mathlib.Core.Path.{sym}
+use native.Mathlib.Omega.{arith}
+use lib.Seq.{length-take-le}
+use Rattle.requests.proofs.Decoding.{bytes-fit}
+use borrow.Author.Needs.{needs}
+use Rattle.replay.proofs.is_check.Statement.{statement}
+use Rattle.replay.proofs.is_check.Tie as tie
+
+field-end-requires : tie.Need-field-end-requires
+field-end-requires c κs = search needs
+
+slice-aggregate-read-hex : tie.Need-slice-aggregate-read-hex
+slice-aggregate-read-hex c = search needs
+
+read-hex-requires : tie.Need-read-hex-requires
+read-hex-requires c κs = search needs
+
+enum-known-n : tie.Need-enum-known-n
+enum-known-n c = search needs
+
+array-share-prefix-sheet : tie.Need-array-share-prefix-sheet
+array-share-prefix-sheet c =
+    let fits = bytes-fit _ _ _ _ _ _ (c .before .before .before .before .read-hex .ensures) (c .before .n .given .1) in
+    let kept = c .before .before .before .before .read-hex .kept .0 in
+    omega arith
+
+slice-aggregate-is-certificate : tie.Need-slice-aggregate-is-certificate
+slice-aggregate-is-certificate c =
+    let fits = bytes-fit _ _ _ _ _ _ (c .before .before .before .before .before .read-hex .ensures) (c .before .before .n .given .1) in
+    let kept = c .before .before .before .before .before .read-hex .kept .0 in
+    sym (length-take-le _ _ (omega arith))
+
+add-is-certificate : tie.Need-add-is-certificate
+add-is-certificate c = search needs
+
+is-certificate-requires : tie.Need-is-certificate-requires
+is-certificate-requires c κs = search needs
+
+enum-told : tie.Need-enum-told
+enum-told c = search needs
+
+returns : tie.Need-returns
+returns c = search needs
+
+returns-2 : tie.Need-returns-2
+returns-2 c = search needs
+
+returns-3 : tie.Need-returns-3
+returns-3 c = search needs
+
+pub is-check-spec : {M : Type 1} → statement M
+is-check-spec =
+    tie.close
+    (tie.spec
+    field-end-requires
+    slice-aggregate-read-hex
+    read-hex-requires
+    enum-known-n
+    array-share-prefix-sheet
+    slice-aggregate-is-certificate
+    add-is-certificate
+    is-certificate-requires
+    enum-told
+    returns
+    returns-2
+    returns-3)

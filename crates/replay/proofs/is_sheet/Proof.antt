@@ -1,0 +1,63 @@
+-- `replay::is_sheet` is safe: the bytes that were read are no more than there is room for.
+use mathlib.Core.Path.{sym}
+use native.Mathlib.Omega.{arith}
+use lib.Seq.{length-take-le}
+use Rattle.requests.proofs.Decoding.{bytes-fit}
+use borrow.Author.Needs.{needs}
+use Rattle.replay.proofs.is_sheet.Statement.{statement}
+use Rattle.replay.proofs.is_sheet.Tie as tie
+
+field-end-requires : tie.Need-field-end-requires
+field-end-requires c κs = search needs
+
+returns : tie.Need-returns
+returns c = search needs
+
+slice-aggregate-read-hex : tie.Need-slice-aggregate-read-hex
+slice-aggregate-read-hex c = search needs
+
+read-hex-requires : tie.Need-read-hex-requires
+read-hex-requires c κs = search needs
+
+enum-known-n : tie.Need-enum-known-n
+enum-known-n c = search needs
+
+array-share-prefix-bytes : tie.Need-array-share-prefix-bytes
+array-share-prefix-bytes c =
+    let fits = bytes-fit _ _ _ _ _ _ (c .before .before .before .before .read-hex .ensures) (c .before .n .given .1) in
+    let kept = c .before .before .before .before .read-hex .kept .0 in
+    omega arith
+
+slice-aggregate-answer-sheet : tie.Need-slice-aggregate-answer-sheet
+slice-aggregate-answer-sheet c =
+    let fits = bytes-fit _ _ _ _ _ _ (c .before .before .before .before .before .read-hex .ensures) (c .before .before .n .given .1) in
+    let kept = c .before .before .before .before .before .read-hex .kept .0 in
+    sym (length-take-le _ _ (omega arith))
+
+answer-sheet-requires : tie.Need-answer-sheet-requires
+answer-sheet-requires c κs = search needs
+
+enum-told : tie.Need-enum-told
+enum-told c = search needs
+
+returns-2 : tie.Need-returns-2
+returns-2 c = search needs
+
+returns-3 : tie.Need-returns-3
+returns-3 c = search needs
+
+pub is-sheet-spec : {M : Type 1} → statement M
+is-sheet-spec =
+    tie.close
+    (tie.spec
+    field-end-requires
+    returns
+    slice-aggregate-read-hex
+    read-hex-requires
+    enum-known-n
+    array-share-prefix-bytes
+    slice-aggregate-answer-sheet
+    answer-sheet-requires
+    enum-told
+    returns-2
+    returns-3)
