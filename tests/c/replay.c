@@ -6,14 +6,12 @@
 
 static uint8_t sheet[70000], certificate[70000], out[262144];
 
+static unsigned digit(char c) { return c <= '9' ? (unsigned)(c - '0') : (unsigned)(c - 'a' + 10); }
+
 static size_t unhex(const char *s, uint8_t *to) {
     size_t n = 0;
     if (!strcmp(s, "-")) return 0;
-    for (; s[0] && s[1]; s += 2) {
-        unsigned b;
-        sscanf(s, "%2x", &b);
-        to[n++] = (uint8_t)b;
-    }
+    for (; s[0] && s[1]; s += 2) to[n++] = (uint8_t)(16 * digit(s[0]) + digit(s[1]));
     return n;
 }
 

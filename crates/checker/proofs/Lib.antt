@@ -14,3 +14,4 @@ pub mod Bases
 pub mod Certificates
 pub mod Passing
 pub mod SheetPassing
+pub mod Demanded

@@ -238,7 +238,7 @@ unfolding wiped
 wiped-step n ns x y xs ys e f = ap₂ (λ (u : List ℕ) (v : List (List ℕ)). (replicate n 0 ++ u) ∷ v) e f
 
 -- the definitions' answer where the scratch is long enough
-checking-enough : (sheet certificate : List ℕ) (buffers : List (List ℕ)) → enough checkLengths buffers ≡ true →
+pub checking-enough : (sheet certificate : List ℕ) (buffers : List (List ℕ)) → enough checkLengths buffers ≡ true →
     checking sheet certificate buffers ≡ record { numbers = verdictNumbers (verdict sheet certificate); scratch = wiped checkLengths buffers }
 unfolding checking pick
 checking-enough sheet certificate buffers e = rw e

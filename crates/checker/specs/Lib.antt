@@ -3,3 +3,4 @@ pub mod Walk
 pub mod Tally
 pub mod Judge
 pub mod Verdicts
+pub mod Demand
