@@ -29,6 +29,7 @@ use Rattle.reader.specs.declared.SheetRead.the-variants as sheet-read
 use Rattle.reader.specs.Laid.{counted, Laid}
 use Rattle.reader.specs.Stands.{All, Stands, ReadAs, read, unread}
 use Rattle.reader.proofs.SheetSaying.{reading-sheet}
+use Rattle.reader.proofs.Opened.{Opened, opened}
 use Rattle.checker.specs.Tally.{ownNumber}
 use Rattle.checker.specs.Verdicts.{verdictIn, Standing, Begun, Answers, scratch, Lengths, Checks}
 
@@ -112,11 +113,6 @@ clash : _≡_ {A = ℕ} 0 1 → ⊥
 clash e = omega arith
 
 module _ (T : Tables) where
-  read-not-refused : (root : Got ℕ) (c : Counts) (n p : ℕ) → counted T root ≡ sheet-read.Read c → root ≡ no n p → ⊥
-  unfolding counted
-  read-not-refused (got r end) c n p y x = clash (cc)
-  read-not-refused (no n′ p′) c n p y x = clash (cc)
-
   refused-not-read : (root : Got ℕ) (w p q end : ℕ) → counted T root ≡ sheet-read.Refused w p → root ≡ got q end → ⊥
   unfolding counted
   refused-not-read (got r e) w p q end y x = clash (cc)
@@ -137,38 +133,9 @@ module _ (s : List ℕ) (ns₀ fs₀ ps₀ hs₀ bs₀ ns fs ps hs bs : List ℕ
   abbrev T : Tables
   T = reading s .tables
 
-  -- what was read, where the answer says so
-  record Opened (c : Counts) : Type 0 where
-    sheet-is : Sheet
-    end : ℕ
-    is : sheet s ≡ got sheet-is end
-    stands : Stands sheet-is T
-    words-many : c .words ≡ length (T .words)
-    base-many : c .base ≡ length (T .base)
-
-  counts-of : (root : Got ℕ) (c : Counts) → counted T root ≡ sheet-read.Read c → (c .words ≡ length (T .words)) × (c .base ≡ length (T .base))
-  unfolding counted
-  counts-of (got r end) c e = (ap (λ (x : SheetRead). words-of x) (sym e), ap (λ (x : SheetRead). base-of x) (sym e))
-    where
-      words-of : SheetRead → ℕ
-      words-of (sheet-read.Read d) = d .words
-      words-of (sheet-read.Refused w p) = 0
-
-      base-of : SheetRead → ℕ
-      base-of (sheet-read.Read d) = d .base
-      base-of (sheet-read.Refused w p) = 0
-  counts-of (no w p) c e = absurd (let z : _≡_ {A = ℕ} 0 1 = cc in omega arith)
-
   module _ (r : SheetRead) (L : Laid s r ns₀ fs₀ ps₀ hs₀ bs₀ ns fs ps hs bs) where
-    opened : (c : Counts) → r ≡ sheet-read.Read c → Opened c
-    opened c e = go (sheet s) refl (reading-sheet s) (counts-of (reading s .root) c (sym (L .answered) ∙ e))
-      where
-        go : (g : Got Sheet) → sheet s ≡ g → ReadAs (reading s) g → (c .words ≡ length (T .words)) × (c .base ≡ length (T .base)) → Opened c
-        go g z (read {S} {end} x st) (w, b) = record { sheet-is = S; end = end; is = z; stands = st; words-many = w; base-many = b }
-        go g z (unread {n} {p} x) (w, b) = absurd (read-not-refused T (reading s .root) c n p (sym (L .answered) ∙ e) x)
-
     -- the buffers stand for the sheet's propositions and its base
-    standing : (c : Counts) (O : Opened c) → Standing fs bs (c .words) (c .base) (O .stands .trees) (O .sheet-is .base)
+    standing : (c : Counts) (O : Opened s c) → Standing fs bs (c .words) (c .base) (O .stands .trees) (O .sheet-is .base)
     standing c O =
         let st = O .stands in
         let used : take (c .words) fs ≡ T .words = rw (L .forms, O .words-many) (take-front (T .words) fs₀) in
@@ -192,7 +159,7 @@ module _ (s : List ℕ) (ns₀ fs₀ ps₀ hs₀ bs₀ ns fs ps hs bs : List ℕ
 
     pub sheet-ready : (c : Counts) → r ≡ sheet-read.Read c → length ns ≡ length ns₀ → length fs ≡ length fs₀ → length bs ≡ length bs₀ → Begun ns fs bs (c .words) (c .base)
     sheet-ready c e a b d =
-        let O = opened c e in
+        let O = opened s c (sym (L .answered) ∙ e) in
         let w = O .words-many in
         let m = O .base-many in
         let few = O .stands .few in
@@ -220,7 +187,7 @@ module _ (s : List ℕ) (ns₀ fs₀ ps₀ hs₀ bs₀ ns fs ps hs bs : List ℕ
           checkedNumbers x ≡ verdictNumbers (verdict s certificate)
       unfolding verdict against
       sheet-goes-on c x e A =
-          let O = opened c e in
+          let O = opened s c (sym (L .answered) ∙ e) in
           A .answers (O .stands .trees) (O .sheet-is .base) (standing c O)
           ∙ ap verdictNumbers (in-base (O .sheet-is) (certificate-at certificate) ∙ sym (rw (O .is)))
 

@@ -15,3 +15,4 @@ pub mod PhraseSaying
 pub mod PhraseRows
 pub mod SheetSaying
 pub mod Laying
+pub mod Opened

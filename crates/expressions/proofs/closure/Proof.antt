@@ -1,0 +1,17 @@
+-- The kind says which it is.
+use Rattle.expressions.proofs.Leaves.{closure-method, closure-function}
+use Rattle.expressions.proofs.closure.Statement.{statement}
+use Rattle.expressions.proofs.closure.Tie as tie
+use Rattle.expressions.proofs.closure.Reads as reads
+use Rattle.expressions.proofs.closure.Lts as lts
+
+-- src/lib.rt:385:9
+returns : tie.Need-returns
+returns c = search closure-method
+
+-- src/lib.rt:377:1
+returns-2 : tie.Need-returns-2
+returns-2 c = search closure-function
+
+pub closure-spec : {M : Type 1} → statement M
+closure-spec = tie.close (tie.spec returns returns-2)

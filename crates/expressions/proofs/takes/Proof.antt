@@ -1,0 +1,17 @@
+-- By the constructor's number.
+use Rattle.expressions.proofs.Leaves.{takes-one, takes-two}
+use Rattle.expressions.proofs.takes.Statement.{statement}
+use Rattle.expressions.proofs.takes.Tie as tie
+use Rattle.expressions.proofs.takes.Reads as reads
+use Rattle.expressions.proofs.takes.Lts as lts
+
+-- src/lib.rt:445:9
+returns : tie.Need-returns
+returns c = search takes-one
+
+-- src/lib.rt:441:1
+returns-2 : tie.Need-returns-2
+returns-2 c = search takes-two
+
+pub takes-spec : {M : Type 1} → statement M
+takes-spec = tie.close (tie.spec returns returns-2)

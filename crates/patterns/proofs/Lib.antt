@@ -1,0 +1,7 @@
+pub mod Shapes
+pub mod Extending
+-- one law for each return
+pub mod Trying
+pub mod Choosing
+-- what is allowed is determined
+pub mod Once
