@@ -1,5 +1,5 @@
-/* Prints requests for a benchmark: limits KIND COPIES, where KIND is c1 (the bench case's certificate), nodes (7,167 nodes over a few
-   propositions) or listing (7,167 nodes over 4,608 propositions). */
+/* Prints requests for a benchmark: limits KIND COPIES, where KIND is c1 (the bench case's certificate), nodes (7,168 nodes over a few
+   propositions) or listing (7,168 nodes over 4,608 propositions). */
 #include <stdint.h>
 #include <stdio.h>
 #include <stdlib.h>
@@ -21,10 +21,11 @@ static void print(void) {
     length = 0;
 }
 
-/* a balanced tree of sequences over so many left-eithers of A0 and a listed proposition */
+/* a balanced tree of sequences over so many left-eithers of A0 and a listed proposition, the first of them under an assume of A0 */
 static uint32_t leaf, choices;
 static void tree(uint32_t leaves) {
     if (leaves == 1) {
+        if (!leaf) { put(2); put(0); }
         put(0); put(7); put(0); put(leaf++ % choices);
         return;
     }
