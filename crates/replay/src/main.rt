@@ -1,9 +1,18 @@
 // Replays requests: each line of standard input is a request, and its answer is a line of standard output.
 //     S SHEET                   reads a sheet: S 0 and how many propositions, patterns, phrases and members of the base it has, and its root;
 //                               or S NUMBER PLACE
+//     V SHEET                   evaluates each expression of a sheet by itself, with a budget of 1,024: a line V PHRASE 0 KIND NUMBER LEFT for each, or
+//                               V PHRASE NUMBER PLACE; the kinds are 0 proposition, 1 constructor, 2 rule, 3 function, 4 method; the number is that of the
+//                               formed proposition, of the constructor, of the rule, of the phrase; left is what is left of the budget
 //     C SHEET CERTIFICATE       checks a certificate: C 0 CONCLUSION INFERENCES; or C NUMBER PLACE
 //     E BUDGET ROOM SHEET       is not answered yet: E ?
 // Bytes are in hexadecimal, a dash stands for none. A line that is no request, or is over 140,000 characters long, gets the line ?.
+ghost use mathlib.Core.Path.{_≡_};
+ghost use Prim.Native.Nat.{_<_};
+ghost use lib.ListN.{length};
+use bindings::Value;
+use expressions::Outcome;
+use expressions::State;
 use language::Checked;
 use libc::STDOUT_FILENO;
 use reader::SheetRead;
@@ -22,7 +31,7 @@ fn main() {
     while turns > 0 {
         let taken = take_in(&mut line, long);
         if taken.ended {
-            return;
+            return last(&line, taken.long);
         }
         long = taken.long;
         turns -= 1;
@@ -36,6 +45,13 @@ fn take_in(line: &mut [u8], long: usize) -> Taken {
     Taken {
         long: lines(line, long, &input[..n]),
         ended: n == 0,
+    }
+}
+
+// The answer to a last line that has no end, where there is one.
+fn last(line: &[u8], k: usize) {
+    if 0 < k {
+        respond(line, k);
     }
 }
 
@@ -82,7 +98,10 @@ fn is_answered(line: &[u8]) -> bool {
         return false;
     }
     if line[0] == b'S' {
-        return is_sheet(line);
+        return is_sheet(line, false);
+    }
+    if line[0] == b'V' {
+        return is_sheet(line, true);
     }
     if line[0] == b'C' {
         return is_check(line);
@@ -93,8 +112,8 @@ fn is_answered(line: &[u8]) -> bool {
     false
 }
 
-// S SHEET.
-fn is_sheet(line: &[u8]) -> bool {
+// V SHEET where values are asked for, else S SHEET.
+fn is_sheet(line: &[u8], values: bool) -> bool {
     let mut bytes = [0u8; 70000];
     let to = requests::field_end(line, 2);
     if to < line.len() {
@@ -102,11 +121,19 @@ fn is_sheet(line: &[u8]) -> bool {
     }
     match requests::read_hex(&mut bytes, line, 2, to) {
         Hex::Bytes(n) => {
-            answer_sheet(&bytes[..n]);
+            answer_either(&bytes[..n], values);
             true
         }
         Hex::Malformed => false,
     }
+}
+
+// The answer to V SHEET where values are asked for, else to S SHEET.
+fn answer_either(sheet: &[u8], values: bool) {
+    if values {
+        return answer_values(sheet);
+    }
+    answer_sheet(sheet)
 }
 
 // The answer to S SHEET.
@@ -139,6 +166,98 @@ fn answer_sheet(sheet: &[u8]) {
         }
     }
     io::write_all(STDOUT_FILENO, b"\n");
+}
+
+// The answer to V SHEET: the sheet is read anew for each phrase.
+fn answer_values(sheet: &[u8]) {
+    let mut names = [0u32; 512];
+    let mut forms = [0u32; 4610];
+    let mut patterns = [0u32; 640];
+    let mut phrases = [0u32; 6144];
+    let mut base = [0u32; 64];
+    let mut binds = [0u32; 16384];
+    let mut k = 0;
+    while k < 512 {
+        answer_phrase(
+            &mut names,
+            &mut forms,
+            &mut patterns,
+            &mut phrases,
+            &mut base,
+            &mut binds,
+            sheet,
+            k,
+        );
+        k += 1;
+    }
+}
+
+// The line for phrase k, where the sheet reads and the phrase is an expression.
+fn answer_phrase(
+    names: &mut [u32],
+    forms: &mut [u32],
+    patterns: &mut [u32],
+    phrases: &mut [u32],
+    base: &mut [u32],
+    binds: &mut [u32],
+    sheet: &[u8],
+    k: usize,
+)
+    requires { ⌜ (length (now names) ≡ 512) × (length (now forms) ≡ 4610) × (length (now patterns) ≡ 640) × (length (now phrases) ≡ 6144) × (length (now base) ≡ 64) × (length (now binds) ≡ 16384) × (k < 512) ⌝ }
+{
+    match reader::read_sheet(names, forms, patterns, phrases, base, sheet) {
+        SheetRead::Read(c) => {
+            if k < c.phrases {
+                if words::at(phrases, 12 * k) < 16 {
+                    let st = State {
+                        props: c.words,
+                        bindings: 0,
+                        work: 1024,
+                    };
+                    print_value(
+                        k,
+                        expressions::evaluate(forms, binds, phrases, patterns, st, 0, k, 64),
+                    );
+                }
+            }
+        }
+        SheetRead::Refused(why, place) => {}
+    }
+}
+
+// The line for phrase k and what its evaluation gave.
+fn print_value(k: usize, outcome: Outcome) {
+    io::write_all(STDOUT_FILENO, b"V");
+    number(k);
+    match outcome {
+        Outcome::Done(v, st) => {
+            number(0);
+            value(v);
+            number(st.work);
+        }
+        Outcome::Refused(why, place) => {
+            number(why);
+            number(place);
+        }
+    }
+    io::write_all(STDOUT_FILENO, b"\n");
+}
+
+// A value's kind and number.
+fn value(v: Value) {
+    match v {
+        Value::Prop(p) => two(0, p),
+        Value::Constructor(c) => two(1, c),
+        Value::Rule(r) => two(2, r),
+        Value::Function(f) => two(3, f.phrase),
+        Value::Method(m) => two(4, m.phrase),
+    }
+}
+
+// Two numbers, each after a blank.
+fn two(a: usize, b: usize) {
+    number(a);
+    number(b);
 }
 
 // C SHEET CERTIFICATE.

@@ -28,14 +28,14 @@ array-share-prefix-bytes c =
     let kept = c .before .before .before .before .read-hex .kept .0 in
     omega arith
 
-slice-aggregate-answer-sheet : tie.Need-slice-aggregate-answer-sheet
-slice-aggregate-answer-sheet c =
+slice-aggregate-answer-either : tie.Need-slice-aggregate-answer-either
+slice-aggregate-answer-either c =
     let fits = bytes-fit _ _ _ _ _ _ (c .before .before .before .before .before .read-hex .ensures) (c .before .before .n .given .1) in
     let kept = c .before .before .before .before .before .read-hex .kept .0 in
     sym (length-take-le _ _ (omega arith))
 
-answer-sheet-requires : tie.Need-answer-sheet-requires
-answer-sheet-requires c κs = search needs
+answer-either-requires : tie.Need-answer-either-requires
+answer-either-requires c κs = search needs
 
 enum-told : tie.Need-enum-told
 enum-told c = search needs
@@ -56,8 +56,8 @@ is-sheet-spec =
     read-hex-requires
     enum-known-n
     array-share-prefix-bytes
-    slice-aggregate-answer-sheet
-    answer-sheet-requires
+    slice-aggregate-answer-either
+    answer-either-requires
     enum-told
     returns-2
     returns-3)

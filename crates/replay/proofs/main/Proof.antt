@@ -20,6 +20,12 @@ slice-aggregate-take-in c = search needs
 take-in-requires : tie.Need-take-in-requires Inv-loop μ-loop
 take-in-requires c κs = search needs
 
+slice-aggregate-last : tie.Need-slice-aggregate-last Inv-loop μ-loop
+slice-aggregate-last c = search needs
+
+last-requires : tie.Need-last-requires Inv-loop μ-loop
+last-requires c κs = search needs
+
 returns : tie.Need-returns Inv-loop μ-loop
 returns c = search needs
 
@@ -44,6 +50,8 @@ main-spec =
     loop-holds
     slice-aggregate-take-in
     take-in-requires
+    slice-aggregate-last
+    last-requires
     returns
     sub-turns
     loop-less
