@@ -4,7 +4,11 @@
     values.py requests     the request lines `V SHEET` of crates/replay/stdin
     values.py answers      what they must be answered, as in crates/replay/stdout
 """
+import os
 import sys
+
+sys.path.append(os.path.join(os.path.dirname(os.path.abspath(__file__)), ".."))
+from sheet import written
 
 BUDGET, NESTING = 1024, 64
 
@@ -43,22 +47,8 @@ class Sheet:
         return self
 
     def written(self):
-        """The sheet's bytes; its root is its last phrase."""
-        numbers = []
-        for table in (self.props, self.patterns, self.phrases):
-            numbers.append(len(table))
-            for record in table:
-                numbers += record
-        numbers += [0, len(self.phrases) - 1]
-        return bytes(b for n in numbers for b in groups(n))
-
-
-def groups(n):
-    """A number in groups of seven bits, low group first."""
-    while n > 127:
-        yield 128 + n % 128
-        n //= 128
-    yield n
+        """The sheet's bytes; its base is empty."""
+        return written(self.props, self.patterns, self.phrases, [])
 
 
 class Evaluator:

@@ -12,20 +12,8 @@ use Rattle.language.specs.Rules.{Ruled, gives, misshapen, ruled}
 use Rattle.language.specs.Numbers.{Got, got, no, then, check}
 use Rattle.language.specs.Check.{Node, ruleN, seqN, underN, ruledIn, concluded}
 use Rattle.forms.specs.Table.{tree}
-use Rattle.rules.specs.Base.{baseOf}
-
--- two bases have the same propositions
-abbrev pub Alike : List Form → List Form → Type 0
-Alike β γ = (p : Form) → member p β ≡ member p γ
-
-alike-more : (β γ : List Form) (q : Form) → Alike β γ → Alike (q ∷ β) (q ∷ γ)
-unfolding member
-alike-more β γ q h p = ap (λ (b : Bool). same p q || b) (h p)
-
-members-alike : (β γ : List Form) → Alike β γ → (ps : List Form) → members ps β ≡ members ps γ
-unfolding members
-members-alike β γ h [] = refl
-members-alike β γ h (p ∷ ps) = ap₂ (λ (a b : Bool). a && b) (h p) (members-alike β γ h ps)
+use Rattle.rules.specs.Base.{Alike}
+use Rattle.rules.proofs.Sets.{alike-more, members-alike}
 
 ruled-alike : (β γ : List Form) → Alike β γ → (R : Ruled) (at : ℕ) → ruledIn R β at ≡ ruledIn R γ at
 unfolding ruledIn
@@ -45,22 +33,3 @@ concluded-alike (seqN a b) β γ h =
     ∙ then-alike (concluded γ a) (λ p at. concluded (p ∷ β) b) (λ p at. concluded (p ∷ γ) b) (λ q at. concluded-alike b (q ∷ β) (q ∷ γ) (alike-more β γ q h))
 concluded-alike (underN p a) β γ h =
     ap (λ (g : Got Form). then g (λ q at. got (bin cond p q) at)) (concluded-alike a (p ∷ β) (p ∷ γ) (alike-more β γ p h))
-
--- the last of a list is in it
-member-last : (p q : Form) (xs : List Form) → member p (xs ++ (q ∷ [])) ≡ same p q || member p xs
-unfolding member
-member-last p q [] = refl
-member-last p q (x ∷ xs) = ap (λ (b : Bool). same p x || b) (member-last p q xs) ∙ turned (same p x) (same p q) (member p xs)
-  where
-    turned : (a b c : Bool) → a || (b || c) ≡ b || (a || c)
-    turned true true c = refl
-    turned true false c = refl
-    turned false b c = refl
-
--- a stack whose numbers stand for some propositions, the first at the bottom, has the same propositions
-pub stack-alike : (fs : List Form) (s : List ℕ) (β : List Form) → ((j : ℕ) → j < length β → tree fs (getD s j 0) ≡ getD β j verum) → (b : ℕ) → b ≤ length β → Alike (baseOf fs s b) (take b β)
-unfolding baseOf member
-stack-alike fs s β h zero l p = refl
-stack-alike fs s β h (suc b) l p =
-    ap₂ (λ (x : Form) (y : Bool). same p x || y) (h b l) (stack-alike fs s β h b (omega arith) p)
-    ∙ sym (ap (member p) (take-suc β b verum l) ∙ member-last p (getD β b verum) (take b β))

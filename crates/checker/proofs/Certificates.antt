@@ -10,7 +10,8 @@ use Rattle.language.specs.Read.{proposition}
 use Rattle.language.specs.Check.{Certificate, certificate-at, own, concluded, falls, stated, checked}
 use Rattle.checker.specs.declared.ProofRead.the-variants as proof
 use Rattle.checker.specs.Tally.{proofAt, ownNumber, certified}
-use Rattle.checker.proofs.Bases.{Alike, concluded-alike}
+use Rattle.rules.specs.Base.{Alike}
+use Rattle.checker.proofs.Bases.{concluded-alike}
 
 -- the count, the listed propositions, the proof and its conclusion
 pub certificate-parts : (s : List ℕ) → certificate-at s ≡ then (from 0 4608 s 0) (λ np a. then (times np (proposition s) [] a) (λ ps b. proofAt s ps b))

@@ -33,7 +33,9 @@ use Rattle.checker.specs.Walk.{Setting}
 use Rattle.checker.specs.Tally.{proofAt, ownNumber, certified}
 use Rattle.checker.specs.Judge.{Judged}
 use Rattle.checker.specs.Verdicts.{verdictIn, Standing, Fixed, Begun, Answers, listingAt, Listed, ProofAnswers}
-use Rattle.checker.proofs.Bases.{Alike, concluded-alike, stack-alike}
+use Rattle.rules.specs.Base.{Alike}
+use Rattle.rules.proofs.Sets.{stack-alike}
+use Rattle.checker.proofs.Bases.{concluded-alike}
 use Rattle.checker.proofs.Certificates.{certificate-parts}
 
 -- the proof, read and refused, or read and judged

@@ -29,7 +29,7 @@ use Rattle.reader.specs.declared.SheetRead.the-variants as sheet-read
 use Rattle.reader.specs.Laid.{counted, Laid}
 use Rattle.reader.specs.Stands.{All, Stands, ReadAs, read, unread}
 use Rattle.reader.proofs.SheetSaying.{reading-sheet}
-use Rattle.reader.proofs.Opened.{Opened, opened}
+use Rattle.reader.proofs.Opened.{Opened, opened, base-few, all-at, getD-tree, refused-not-read, refused-same}
 use Rattle.checker.specs.Tally.{ownNumber}
 use Rattle.checker.specs.Verdicts.{verdictIn, Standing, Begun, Answers, scratch, Lengths, Checks}
 
@@ -93,36 +93,6 @@ pub all-wiped : (ns fs ps hs bs ns′ fs′ ps′ hs′ bs′ : List ℕ) → ns
 unfolding wiped
 all-wiped ns fs ps hs bs ns′ fs′ ps′ hs′ bs′ a b c d e = rw (a, b, c, d, e)
 
--- a sheet's base is of at most 64
-base-few : (s : List ℕ) (S : Sheet) (end : ℕ) → sheet s ≡ got S end → length (S .base) ≤ 64
-base-few s S end e =
-    let p = read-parts e in
-    let c = ensured (ensures-from 0 64 s _) (p .counts-base .reads) .1 in
-    let l = ensured (ensures-times (λ xs. Unit {0}) (λ acc. reference s (S .props)) (λ acc at h. ensure (reference s (S .props) at) (λ a next e. tt)) (p .base-count) [] _ tt) (p .reads-base .reads) .1 in
-    omega arith
-
--- the sheet's reading
-all-at : (G : ℕ → Type 0) (xs : List ℕ) → All G xs → (j : ℕ) → j < length xs → G (getD xs j 0)
-unfolding All
-all-at G [] h j l = absurd (omega arith)
-all-at G (x ∷ xs) h ℕ.zero l = h .0
-all-at G (x ∷ xs) h (ℕ.suc j) l = all-at G xs (h .1) j (omega arith)
-
--- what the answer tells of the root
-clash : _≡_ {A = ℕ} 0 1 → ⊥
-clash e = omega arith
-
-module _ (T : Tables) where
-  refused-not-read : (root : Got ℕ) (w p q end : ℕ) → counted T root ≡ sheet-read.Refused w p → root ≡ got q end → ⊥
-  unfolding counted
-  refused-not-read (got r e) w p q end y x = clash (cc)
-  refused-not-read (no n′ p′) w p q end y x = clash (cc)
-
-  refused-same : (root : Got ℕ) (w p n p′ : ℕ) → counted T root ≡ sheet-read.Refused w p → root ≡ no n p′ → (n ≡ w) × (p′ ≡ p)
-  unfolding counted
-  refused-same (got r e) w p n p′ y x = absurd (clash (cc))
-  refused-same (no a b) w p n p′ y x = (cc, cc)
-
 -- a verdict in the sheet's base is the check of what was read
 in-base : (S : Sheet) (g : Got Certificate) → verdictIn (S .base) g ≡ checked S (own g)
 unfolding verdictIn checked own ownNumber
@@ -151,11 +121,6 @@ module _ (s : List ℕ) (ns₀ fs₀ ps₀ hs₀ bs₀ ns fs ps hs bs : List ℕ
               let l = all-at (λ p. p < length (T .words)) (T .base) (st .low) j i in
               rw e (omega arith, rw (← st .base) (sym (getD-tree (st .trees) (T .base) j i)));
         }
-      where
-        getD-tree : (ts : List Form) (xs : List ℕ) (j : ℕ) → j < length xs → getD (map (tree ts) xs) j verum ≡ tree ts (getD xs j 0)
-        getD-tree ts [] j l = absurd (omega arith)
-        getD-tree ts (x ∷ xs) ℕ.zero l = refl
-        getD-tree ts (x ∷ xs) (ℕ.suc j) l = getD-tree ts xs j (omega arith)
 
     pub sheet-ready : (c : Counts) → r ≡ sheet-read.Read c → length ns ≡ length ns₀ → length fs ≡ length fs₀ → length bs ≡ length bs₀ → Begun ns fs bs (c .words) (c .base)
     sheet-ready c e a b d =

@@ -26,7 +26,7 @@ front-fits xs d t e l =
     omega arith
 
 -- rows laid in a buffer that is as long as before
-held : (width : ℕ) (rows : List (List ℕ)) (d t : List ℕ) → Wide width rows → t ≡ front (flat rows) d → length t ≡ length d → Holds width rows t
+pub held : (width : ℕ) (rows : List (List ℕ)) (d t : List ℕ) → Wide width rows → t ≡ front (flat rows) d → length t ≡ length d → Holds width rows t
 held width rows d t h e l =
     let fits = front-fits (flat rows) d t e l in
     let long = flat-long width rows h in

@@ -25,7 +25,7 @@ checkedNumbers (Falls n p) = n ∷ (p ∷ [])
 
 -- the fixed lengths of an evaluation's scratch: listing, forms, patterns, phrases, base, bindings, tokens (docs/SCRATCH.md)
 abbrev pub evaluationLengths : List ℕ
-evaluationLengths = 13830 ∷ (4610 ∷ (640 ∷ (6144 ∷ (1088 ∷ (16384 ∷ (11264 ∷ []))))))
+evaluationLengths = 9220 ∷ (4610 ∷ (640 ∷ (6144 ∷ (1088 ∷ (16384 ∷ (11264 ∷ []))))))
 
 -- the fixed lengths of a check's scratch: names, forms, patterns, phrases, base
 abbrev pub checkLengths : List ℕ

@@ -5,17 +5,21 @@
 //                               V PHRASE NUMBER PLACE; the kinds are 0 proposition, 1 constructor, 2 rule, 3 function, 4 method; the number is that of the
 //                               formed proposition, of the constructor, of the rule, of the phrase; left is what is left of the budget
 //     C SHEET CERTIFICATE       checks a certificate: C 0 CONCLUSION INFERENCES; or C NUMBER PLACE
-//     E BUDGET ROOM SHEET       is not answered yet: E ?
-// Bytes are in hexadecimal, a dash stands for none. A line that is no request, or is over 140,000 characters long, gets the line ?.
+//     E BUDGET ROOM SHEET       evaluates, with ROOM bytes of output: E 0 LENGTH WORK INFERENCES CERTIFICATE; or E NUMBER PLACE
+// Bytes are in hexadecimal, numbers in decimal; a dash stands for no bytes. A line that is no request, or is over 140,000 characters long, gets the line ?.
 ghost use mathlib.Core.Path.{_≡_};
-ghost use Prim.Native.Nat.{_<_};
+ghost use Prim.Native.Nat.{_<_, _≤_};
 ghost use lib.ListN.{length};
 use bindings::Value;
 use expressions::Outcome;
 use expressions::State;
 use language::Checked;
+use language::Evaluated;
+use language::Inferences;
+use language::Work;
 use libc::STDOUT_FILENO;
 use reader::SheetRead;
+use requests::Decimal;
 use requests::Hex;
 
 // How much of a line is held, and whether the input has ended.
@@ -107,7 +111,7 @@ fn is_answered(line: &[u8]) -> bool {
         return is_check(line);
     }
     if line[0] == b'E' {
-        return io::write_all(STDOUT_FILENO, b"E ?\n");
+        return is_evaluation(line);
     }
     false
 }
@@ -316,6 +320,108 @@ fn answer_check(sheet: &[u8], certificate: &[u8]) {
             number(place);
         }
     }
+    io::write_all(STDOUT_FILENO, b"\n");
+}
+
+// E BUDGET ROOM SHEET.
+fn is_evaluation(line: &[u8]) -> bool {
+    let to = requests::field_end(line, 2);
+    if to < line.len() {
+        return match requests::read_decimal(line, 2, to) {
+            Decimal::Number(budget) => is_room(line, to + 1, budget),
+            Decimal::Malformed => false,
+        };
+    }
+    false
+}
+
+// ROOM SHEET of such a line, from a place on.
+fn is_room(line: &[u8], from: usize, budget: usize) -> bool {
+    let to = requests::field_end(line, from);
+    if to < line.len() {
+        return match requests::read_decimal(line, from, to) {
+            Decimal::Number(room) => is_evaluated(line, to + 1, budget, room),
+            Decimal::Malformed => false,
+        };
+    }
+    false
+}
+
+// SHEET of such a line, from a place on.
+fn is_evaluated(line: &[u8], from: usize, budget: usize, room: usize) -> bool {
+    let mut sheet = [0u8; 70000];
+    let to = requests::field_end(line, from);
+    if to < line.len() {
+        return false;
+    }
+    match requests::read_hex(&mut sheet, line, from, to) {
+        Hex::Bytes(n) => {
+            answer_evaluation(&sheet[..n], budget, room);
+            true
+        }
+        Hex::Malformed => false,
+    }
+}
+
+// The answer to E BUDGET ROOM SHEET. No certificate is as long as 65,536 bytes, so that more room changes nothing.
+fn answer_evaluation(sheet: &[u8], budget: usize, room: usize) {
+    let mut out = [0u8; 65536];
+    if room < 65536 {
+        return evaluate_into(&mut out[..room], sheet, budget);
+    }
+    evaluate_into(&mut out, sheet, budget)
+}
+
+// The same, with an output of at most 65,536 bytes.
+fn evaluate_into(out: &mut [u8], sheet: &[u8], budget: usize)
+    requires { ⌜ length (now out) ≤ 65536 ⌝ }
+{
+    let mut listing = [0u32; 9220];
+    let mut forms = [0u32; 4610];
+    let mut patterns = [0u32; 640];
+    let mut phrases = [0u32; 6144];
+    let mut base = [0u32; 1088];
+    let mut binds = [0u32; 16384];
+    let mut tokens = [0u32; 11264];
+    match evaluator::evaluate(
+        &mut listing,
+        &mut forms,
+        &mut patterns,
+        &mut phrases,
+        &mut base,
+        &mut binds,
+        &mut tokens,
+        sheet,
+        budget,
+        out,
+    ) {
+        Evaluated::Accepted(n, work, inferences) => accepted(&out[..n], work, inferences),
+        Evaluated::Refused(why, place) => refused(why, place),
+    }
+}
+
+// The line for a certificate.
+fn accepted(certificate: &[u8], work: Work, inferences: Inferences)
+    requires { ⌜ length (now certificate) ≤ 65536 ⌝ }
+{
+    let mut text = [0u8; 131072];
+    let n = certificate.len();
+    requests::write_hex(&mut text, certificate);
+    io::write_all(STDOUT_FILENO, b"E");
+    number(0);
+    number(n);
+    number(work.0);
+    number(inferences.0);
+    io::write_all(STDOUT_FILENO, b" ");
+    io::write_all(STDOUT_FILENO, &text[..2 * n]);
+    io::write_all(STDOUT_FILENO, b"\n");
+}
+
+// The line for a refusal of an evaluation.
+fn refused(why: usize, place: usize) {
+    io::write_all(STDOUT_FILENO, b"E");
+    number(why);
+    number(place);
     io::write_all(STDOUT_FILENO, b"\n");
 }
 

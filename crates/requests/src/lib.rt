@@ -1,10 +1,13 @@
-// Requests as lines of text: fields cut at single blanks, bytes in hexadecimal, a dash for no bytes.
-// A field that is not of this form is malformed, and so is one that is longer than the buffer it is read into.
+// Requests as lines of text: fields cut at single blanks, bytes in hexadecimal, a dash for no bytes, numbers in decimal.
+// A field that is not of this form is malformed, and so is one that is longer than the buffer it is read into, or a number over 64 bits.
 ghost use mathlib.Core.Path.{_≡_};
-ghost use Prim.Native.Nat.{_+_, _*_, _^_, _<_, _≤_};
+ghost use Prim.Native.Nat.{_+_, _-_, _*_, _^_, _<_, _≤_};
 ghost use mathlib.Core.List.{[]};
 ghost use lib.Dec.{eqb};
 ghost use lib.ListN.{length, getD, drop};
+ghost use Rattle.requests.specs.Decimals.{counted, decimal};
+ghost use Rattle.requests.specs.Writing.{digitOf, hexOf};
+ghost use Rattle.words.specs.Front.{front};
 ghost use Rattle.requests.specs.Fields.{span, letter, nibble, byteOf, pairAt, field, decoding, told, Reads};
 
 // How many bytes a field says; or that it says none.
@@ -12,6 +15,15 @@ pub enum Hex {
     Bytes(usize),
     Malformed,
 }
+
+// The number that a field says; or that it says none.
+pub enum Decimal {
+    Number(usize),
+    Malformed,
+}
+
+// The largest number of 64 bits.
+const LARGEST: usize = 18446744073709551615;
 
 // The place of the first blank from a place on; the line's end where there is none.
 pub fn field_end(line: &[u8], from: usize) -> usize
@@ -42,6 +54,61 @@ pub fn read_hex(out: &mut [u8], line: &[u8], from: usize, to: usize) -> Hex
         return Hex::Malformed;
     }
     Hex::Malformed
+}
+
+// The number of the field from a place to another, in decimal digits.
+pub fn read_decimal(line: &[u8], from: usize, to: usize) -> Decimal
+    ensures { λ r. ⌜ r ≡ decimal (now (line .entry)) from to ⌝ }
+{
+    if from < to {
+        return digits(line, from, to);
+    }
+    Decimal::Malformed
+}
+
+// The digits from a place to another, the highest first.
+fn digits(line: &[u8], from: usize, to: usize) -> Decimal
+    requires { ⌜ from < to ⌝ }
+    ensures { λ r. ⌜ r ≡ counted (now (line .entry)) (to - from) from 0 ⌝ }
+{
+    let mut i = from;
+    let mut v = 0;
+    while i < to {
+        let d = digit(character(line, i));
+        if 9 < d {
+            return Decimal::Malformed;
+        }
+        if (LARGEST - d) / 10 < v {
+            return Decimal::Malformed;
+        }
+        v = 10 * v + d;
+        i += 1;
+    }
+    Decimal::Number(v)
+}
+
+// The bytes s in hexadecimal, two digits each, at the front of out, which must have room for them.
+pub fn write_hex(out: &mut [u8], s: &[u8])
+    requires { ⌜ 2 * length (now s) ≤ length (now out) ⌝ }
+    ensures { λ _. ⌜ now (out .exit) ≡ front (hexOf (now (s .entry))) (now (out .entry)) ⌝ }
+{
+    let mut i = 0;
+    let mut at = 0;
+    while i < s.len() {
+        let b = wide(s[i]);
+        out[at] = written(b / 16) as u8;
+        out[at + 1] = written(b % 16) as u8;
+        i += 1;
+        at += 2;
+    }
+}
+
+// The character of a hexadecimal digit's value.
+fn written(v: usize) -> usize
+    requires { ⌜ v < 16 ⌝ }
+    ensures { λ r. ⌜ (r ≡ digitOf v) × (r < 256) ⌝ }
+{
+    if v < 10 { v + 48 } else { v + 87 }
 }
 
 // A dash, which says no bytes.

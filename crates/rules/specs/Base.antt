@@ -1,11 +1,16 @@
 -- The base as a stack of numbers, and a rule's premises in it.
 use Prim.Native.Nat.{ℕ, zero, suc, _/_, _%_}
+use mathlib.Core.Path.{_≡_}
 use mathlib.Core.Bool.{Bool, false, _&&_, _||_}
 use mathlib.Core.List.{List, [], _∷_}
 use lib.ListN.{getD}
 use lib.Dec.{eqb}
-use Rattle.language.specs.Form.{Form}
+use Rattle.language.specs.Form.{Form, member}
 use Rattle.forms.specs.Table.{tree}
+
+-- two bases have the same propositions: a base is a set
+abbrev pub Alike : List Form → List Form → Type 0
+Alike β γ = (p : Form) → member p β ≡ member p γ
 
 -- the trees on the stack, the top first
 unfoldable pub baseOf : List Form → List ℕ → ℕ → List Form

@@ -1,0 +1,12 @@
+pub mod Emitting
+pub mod Pieces
+pub mod Growing
+pub mod Marking
+pub mod Ahead
+pub mod Needing
+pub mod Ordering
+pub mod Placing
+pub mod Recording
+pub mod Proving
+pub mod Certifying
+pub mod Determined

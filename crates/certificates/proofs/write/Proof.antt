@@ -1,0 +1,50 @@
+-- The certificate is measured, and written where the output has room for it.
+use Rattle.certificates.proofs.Certifying.{measuring, writing, written, too-short}
+use borrow.Author.Needs.{needs}
+use Rattle.certificates.proofs.write.Statement.{statement}
+use Rattle.certificates.proofs.write.Tie as tie
+use Rattle.certificates.proofs.write.Reads as reads
+use Rattle.certificates.proofs.write.Lts as lts
+use Rattle.certificates.proofs.emit.Reads as emit-reads
+use Rattle.certificates.proofs.order.Reads as order-reads
+
+order-requires : tie.Need-order-requires
+order-requires c κs = c .before .before .before .before .before .pre
+
+emit-requires : tie.Need-emit-requires
+emit-requires c κs = measuring _ _ _ _ _ _ _ _ (c .before .before .before .before .order .ensures) _ (c .before .before .before .before .before .before .before .before .before .before .pre)
+
+emit-requires-2 : tie.Need-emit-requires-2
+emit-requires-2 c κs = writing _ _ _ _ _ _ _ _ (c .before .before .before .before .before .before .before .before .before .before .order .ensures) _ _ _ (c .before .before .before .before .before .emit .ensures) (c .before .before .if1 .taken) (c .before .before .before .before .before .before .before .before .before .before .before .before .before .before .before .before .pre)
+
+same-length : tie.Need-same-length
+same-length c = search needs
+
+same-length-2 : tie.Need-same-length-2
+same-length-2 c = search needs
+
+returns : tie.Need-returns
+returns c = written _ _ _ _ _ _ _ _ (c .before .before .before .before .before .before .before .before .before .before .before .before .before .order .ensures) _ _ _ (c .before .before .before .before .before .before .before .before .emit .ensures) (c .before .before .before .before .before .if1 .taken) _ _ (c .before .before .emit2 .ensures)
+
+same-length-3 : tie.Need-same-length-3
+same-length-3 c = search needs
+
+same-length-4 : tie.Need-same-length-4
+same-length-4 c = search needs
+
+returns-2 : tie.Need-returns-2
+returns-2 c = too-short _ _ _ _ _ _ _ _ (c .before .before .before .before .before .before .before .before .order .ensures) _ _ _ (c .before .before .before .emit .ensures) (c .if1 .left)
+
+pub write-spec : {M : Type 1} → statement M
+write-spec =
+    tie.close
+    (tie.spec
+    order-requires
+    emit-requires
+    emit-requires-2
+    same-length
+    same-length-2
+    returns
+    same-length-3
+    same-length-4
+    returns-2)

@@ -1,0 +1,4 @@
+pub mod Marks
+pub mod Emitted
+pub mod Told
+pub mod Certified

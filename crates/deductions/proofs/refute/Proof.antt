@@ -1,0 +1,72 @@
+-- Where the proof concluded false: p⇒false, ¬false and ¬p are formed, and the tokens written.
+use native.Mathlib.Omega.{arith}
+use Rattle.forms.proofs.Interning.{sized}
+use Rattle.deductions.proofs.Leaves.{refuted-false, refuted-other}
+use borrow.Author.Needs.{needs}
+use Rattle.deductions.proofs.refute.Statement.{statement}
+use Rattle.deductions.proofs.refute.Tie as tie
+use Rattle.deductions.proofs.refute.Reads as reads
+use Rattle.deductions.proofs.refute.Lts as lts
+use Rattle.deductions.proofs.tollens.Reads as tollens-reads
+use Rattle.forms.proofs.conditional.Reads as conditional-reads
+use Rattle.forms.proofs.negation.Reads as negation-reads
+
+-- src/lib.rt:1040:13
+conditional-requires : tie.Need-conditional-requires
+conditional-requires c κs = search needs
+
+-- src/lib.rt:1041:13
+negation-requires : tie.Need-negation-requires
+negation-requires c κs =
+    let s = sized _ _ _ _ _ (let h = c .before .before .before .before .before .before .before .before .before .pre .0 in omega (arith, h)) (c .before .before .before .conditional .ensures) in
+    let k = c .before .before .before .conditional .kept .0 in
+    let h = c .before .before .before .before .before .before .before .before .before .pre in
+    (omega (arith, s, k, h), omega arith)
+
+-- src/lib.rt:1042:13
+negation-requires-2 : tie.Need-negation-requires-2
+negation-requires-2 c κs =
+    let h = c .before .before .before .before .before .before .before .before .before .before .before .before .before .pre in
+    let s = sized _ _ _ _ _ (omega (arith, h)) (c .before .before .before .before .before .before .before .conditional .ensures) in
+    let k = c .before .before .before .before .before .before .before .conditional .kept .0 in
+    let s₂ = sized _ _ _ _ _ (omega (arith, s, k, h)) (c .before .before .before .negation .ensures) in
+    let k₂ = c .before .before .before .negation .kept .0 in
+    (omega (arith, s, k, s₂, k₂, h), h .4)
+
+-- src/lib.rt:1043:13
+tollens-requires : tie.Need-tollens-requires
+tollens-requires c κs =
+    let h = c .before .before .before .before .before .before .before .before .before .before .before .before .before .before .before .before .before .pre in
+    let s = sized _ _ _ _ _ (omega (arith, h)) (c .before .before .before .before .before .before .before .before .before .before .before .conditional .ensures) in
+    let k = c .before .before .before .before .before .before .before .before .before .before .before .conditional .kept .0 in
+    let s₂ = sized _ _ _ _ _ (omega (arith, s, k, h)) (c .before .before .before .before .before .before .before .negation .ensures) in
+    (h .2, h .3, omega (arith, s, h), omega (arith, s, s₂, h))
+
+-- src/lib.rt:1044:9
+same-length : tie.Need-same-length
+same-length c = search needs
+
+-- src/lib.rt:1044:9
+same-length-2 : tie.Need-same-length-2
+same-length-2 c = search needs
+
+-- src/lib.rt:1044:9
+returns : tie.Need-returns
+returns c = refuted-false _ _ _ _ _ _ _ _ _ _ _ _ _ _ (c .before .before .before .before .before .before .before .before .before .before .before .before .before .before .before .before .before .if1 .taken) (c .before .before .before .before .before .before .before .before .before .before .before .before .before .before .conditional .ensures) (c .before .before .before .before .before .before .before .before .before .before .negation .ensures) (c .before .before .before .before .before .before .negation2 .ensures) (c .before .before .tollens .ensures)
+
+-- src/lib.rt:1027:1
+returns-2 : tie.Need-returns-2
+returns-2 c = refuted-other _ _ _ _ _ _ (c .if1 .left)
+
+pub refute-spec : {M : Type 1} → statement M
+refute-spec =
+    tie.close
+    (tie.spec
+    conditional-requires
+    negation-requires
+    negation-requires-2
+    tollens-requires
+    same-length
+    same-length-2
+    returns
+    returns-2)

@@ -1,0 +1,22 @@
+-- One binding more.
+use borrow.Author.Needs.{needs}
+use Rattle.deductions.proofs.with.Statement.{statement}
+use Rattle.deductions.proofs.with.Tie as tie
+use Rattle.deductions.proofs.with.Reads as reads
+use Rattle.deductions.proofs.with.Lts as lts
+use Rattle.expressions.proofs.bind_value.Reads as bind-value-reads
+
+-- src/lib.rt:765:9
+bind-value-requires : tie.Need-bind-value-requires
+bind-value-requires c κs = search needs
+
+-- src/lib.rt:760:1
+same-length : tie.Need-same-length
+same-length c = search needs
+
+-- src/lib.rt:760:1
+returns : tie.Need-returns
+returns c = (rw (c .before .before .bind-value .ensures .0), c .before .before .bind-value .ensures .1)
+
+pub with-spec : {M : Type 1} → statement M
+with-spec = tie.close (tie.spec bind-value-requires same-length returns)

@@ -1,0 +1,47 @@
+-- Four numbers, then the fifth.
+use mathlib.Core.Path.{_≡_, refl, _∙_}
+use Prim.Native.Nat.{ℕ, suc, _+_}
+use native.Mathlib.Omega.{arith}
+use borrow.Author.Needs.{needs}
+use Rattle.tokens.proofs.rule.Statement.{statement}
+use Rattle.tokens.proofs.rule.Tie as tie
+use Rattle.tokens.proofs.rule.Reads as reads
+use Rattle.tokens.proofs.rule.Lts as lts
+use Rattle.words.proofs.put.Reads as put-reads
+use Rattle.words.proofs.put4.Reads as put4-reads
+
+-- src/lib.rt:33:5
+put4-requires : tie.Need-put4-requires
+put4-requires c κs = search needs
+
+-- src/lib.rt:34:19
+add-put : tie.Need-add-put
+add-put c = search needs
+
+-- src/lib.rt:34:5
+put-requires : tie.Need-put-requires
+put-requires c κs = search needs
+
+-- src/lib.rt:35:5
+add-result : tie.Need-add-result
+add-result c = search needs
+
+-- src/lib.rt:35:5
+add-result-2 : tie.Need-add-result-2
+add-result-2 c = search needs
+
+-- src/lib.rt:29:1
+same-length : tie.Need-same-length
+same-length c = search needs
+
+-- src/lib.rt:29:1
+returns : tie.Need-returns
+returns c =
+    let n : ℕ = c .before .before .before .before .before .before .before .before .before .args .n in
+    let four : n + 4 ≡ suc (suc (suc (suc n))) = omega arith in
+    (refl, c .before .before .put .ensures ∙ rw (four, c .before .before .before .before .before .before .put4 .ensures))
+
+pub rule-spec : {M : Type 1} → statement M
+rule-spec =
+    tie.close
+    (tie.spec put4-requires add-put put-requires add-result add-result-2 same-length returns)
