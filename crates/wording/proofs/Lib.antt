@@ -1,0 +1,9 @@
+pub mod Writing
+pub mod Listing
+pub mod Pieces
+pub mod Filling
+pub mod Finding
+pub mod Bytes
+pub mod Answering
+pub mod Decoding
+pub mod Examples

@@ -1,0 +1,31 @@
+-- `accepted` meets its contract: the template is one piece.
+use Rattle.wording.specs.Page.{pick}
+use Rattle.wording.specs.Text.{text, upTo, after, piece}
+use Rattle.wording.specs.Answers.{acceptedText}
+use borrow.Author.Needs.{needs}
+use Rattle.wording.proofs.accepted.Statement.{statement}
+use Rattle.wording.proofs.accepted.Tie as tie
+use Rattle.wording.proofs.accepted.Reads as reads
+use Rattle.wording.proofs.accepted.Lts as lts
+use Rattle.wording.proofs.template.fill.Reads as fill-reads
+
+slice-aggregate-fill : tie.Need-slice-aggregate-fill
+slice-aggregate-fill c = search needs
+
+slice-aggregate-fill-2 : tie.Need-slice-aggregate-fill-2
+slice-aggregate-fill-2 c = search needs
+
+fill-requires : tie.Need-fill-requires
+fill-requires c κs = search needs
+
+same-length : tie.Need-same-length
+same-length c = search needs
+
+returns : tie.Need-returns
+unfolding acceptedText text upTo after piece pick
+returns c = c .before .before .fill .ensures
+
+pub accepted-spec : {M : Type 1} → statement M
+accepted-spec =
+    tie.close
+    (tie.spec slice-aggregate-fill slice-aggregate-fill-2 fill-requires same-length returns)

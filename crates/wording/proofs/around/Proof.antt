@@ -1,0 +1,64 @@
+-- `around` meets its contract, by what its callees ensure.
+use Rattle.wording.specs.Page.{pick}
+use Rattle.wording.specs.Text.{text, upTo, after, piece}
+use Rattle.wording.proofs.Answering.{around-here, around-end}
+use borrow.Author.Needs.{needs}
+use Rattle.wording.proofs.around.Statement.{statement}
+use Rattle.wording.proofs.around.Tie as tie
+use Rattle.wording.proofs.around.Reads as reads
+use Rattle.wording.proofs.around.Lts as lts
+use Rattle.wording.proofs.dots.Reads as dots-reads
+use Rattle.wording.proofs.here.Reads as here-reads
+use Rattle.wording.proofs.page.bytes.Reads as bytes-reads
+use Rattle.wording.proofs.page.words.Reads as words-reads
+use Rattle.wording.proofs.start.Reads as start-reads
+
+start-requires : tie.Need-start-requires
+start-requires c κs = search needs
+
+dots-requires : tie.Need-dots-requires
+dots-requires c κs = search needs
+
+sub-bytes : tie.Need-sub-bytes
+sub-bytes c = search needs
+
+bytes-requires : tie.Need-bytes-requires
+bytes-requires c κs = search needs
+
+here-requires : tie.Need-here-requires
+here-requires c κs = search needs
+
+same-length : tie.Need-same-length
+same-length c = search needs
+
+returns : tie.Need-returns
+returns c = around-here _ _ _ (c .before .before .before .before .before .before .before .before .before .before .before .before .before .start .ensures) _ _ _ _ (c .before .before .before .before .before .before .before .before .before .before .before .dots .ensures) (c .before .before .before .before .before .before .before .bytes .ensures) (c .before .before .before .before .if1 .taken) (c .before .before .here .ensures)
+
+slice-aggregate-words : tie.Need-slice-aggregate-words
+slice-aggregate-words c = search needs
+
+words-requires : tie.Need-words-requires
+words-requires c κs = search needs
+
+same-length-2 : tie.Need-same-length-2
+same-length-2 c = search needs
+
+returns-2 : tie.Need-returns-2
+unfolding text upTo after piece pick
+returns-2 c = around-end _ _ _ (c .before .before .before .before .before .before .before .before .before .before .before .before .before .before .start .ensures) _ _ _ _ (c .before .before .before .before .before .before .before .before .before .before .before .before .dots .ensures) (c .before .before .before .before .before .before .before .before .bytes .ensures) (c .before .before .before .before .before .if1 .left) (c .before .before .words .ensures)
+
+pub around-spec : {M : Type 1} → statement M
+around-spec =
+    tie.close
+    (tie.spec
+    start-requires
+    dots-requires
+    sub-bytes
+    bytes-requires
+    here-requires
+    same-length
+    returns
+    slice-aggregate-words
+    words-requires
+    same-length-2
+    returns-2)

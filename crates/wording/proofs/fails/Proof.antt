@@ -1,0 +1,48 @@
+-- `fails` meets its contract: the tests say where the place is.
+use mathlib.Core.Path.{refl}
+use Rattle.wording.proofs.Answering.{fails-sheet, fails-high, fails-low}
+use mathlib.Core.List.{[]}
+use borrow.Author.Needs.{needs}
+use Rattle.wording.proofs.fails.Statement.{statement}
+use Rattle.wording.proofs.fails.Tie as tie
+use Rattle.wording.proofs.fails.Reads as reads
+use Rattle.wording.proofs.fails.Lts as lts
+use Rattle.wording.proofs.in_sheet.Reads as in-sheet-reads
+use Rattle.wording.proofs.refused.Reads as refused-reads
+
+refused-requires : tie.Need-refused-requires
+refused-requires c κs = search needs
+
+in-sheet-requires : tie.Need-in-sheet-requires
+in-sheet-requires c κs = search needs
+
+same-length : tie.Need-same-length
+same-length c = search needs
+
+returns : tie.Need-returns
+returns c = fails-sheet _ [] _ _ _ _ _ (c .before .before .before .before .before .before .before .before .refused .ensures) (c .before .before .before .before .before .if1 .taken) (c .before .before .before .before .if2 .taken) (c .before .before .in-sheet .ensures)
+
+same-length-2 : tie.Need-same-length-2
+same-length-2 c = search needs
+
+returns-2 : tie.Need-returns-2
+returns-2 c = fails-high _ [] _ _ _ _ _ (c .before .before .before .before .refused .ensures) (c .before .if1 .taken) (c .if2 .left) refl
+
+same-length-3 : tie.Need-same-length-3
+same-length-3 c = search needs
+
+returns-3 : tie.Need-returns-3
+returns-3 c = fails-low _ [] _ _ _ _ _ (c .before .before .before .refused .ensures) (c .if1 .left) refl
+
+pub fails-spec : {M : Type 1} → statement M
+fails-spec =
+    tie.close
+    (tie.spec
+    refused-requires
+    in-sheet-requires
+    same-length
+    returns
+    same-length-2
+    returns-2
+    same-length-3
+    returns-3)

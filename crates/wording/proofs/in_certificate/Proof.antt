@@ -1,0 +1,51 @@
+-- `in_certificate` meets its contract, by what its callees ensure.
+use Rattle.wording.specs.Page.{pick}
+use Rattle.wording.specs.Text.{text, upTo, after, piece}
+use Rattle.wording.specs.Answers.{certificateText}
+use Rattle.wording.proofs.Answering.{three}
+use borrow.Author.Needs.{needs}
+use Rattle.wording.proofs.in_certificate.Statement.{statement}
+use Rattle.wording.proofs.in_certificate.Tie as tie
+use Rattle.wording.proofs.in_certificate.Reads as reads
+use Rattle.wording.proofs.in_certificate.Lts as lts
+use Rattle.wording.proofs.around.Reads as around-reads
+use Rattle.wording.proofs.page.words.Reads as words-reads
+use Rattle.wording.proofs.template.fill.Reads as fill-reads
+
+slice-aggregate-fill : tie.Need-slice-aggregate-fill
+slice-aggregate-fill c = search needs
+
+slice-aggregate-fill-2 : tie.Need-slice-aggregate-fill-2
+slice-aggregate-fill-2 c = search needs
+
+fill-requires : tie.Need-fill-requires
+fill-requires c κs = search needs
+
+around-requires : tie.Need-around-requires
+around-requires c κs = search needs
+
+slice-aggregate-words : tie.Need-slice-aggregate-words
+slice-aggregate-words c = search needs
+
+words-requires : tie.Need-words-requires
+words-requires c κs = search needs
+
+same-length : tie.Need-same-length
+same-length c = search needs
+
+returns : tie.Need-returns
+unfolding certificateText text upTo after piece pick
+returns c = three _ _ _ _ _ _ _ (c .before .before .before .before .before .before .before .before .before .before .before .fill .ensures) (c .before .before .before .before .before .before .before .around .ensures) (c .before .before .words .ensures)
+
+pub in-certificate-spec : {M : Type 1} → statement M
+in-certificate-spec =
+    tie.close
+    (tie.spec
+    slice-aggregate-fill
+    slice-aggregate-fill-2
+    fill-requires
+    around-requires
+    slice-aggregate-words
+    words-requires
+    same-length
+    returns)

@@ -1,0 +1,25 @@
+-- `page::words` meets its contract: the bars are passed, then the piece is written.
+use Rattle.wording.specs.Text.{piece}
+use borrow.Author.Needs.{needs}
+use Rattle.wording.proofs.page.words.Statement.{statement}
+use Rattle.wording.proofs.page.words.Tie as tie
+use Rattle.wording.proofs.page.words.Reads as reads
+use Rattle.wording.proofs.page.words.Lts as lts
+use Rattle.wording.proofs.page.skip.Reads as skip-reads
+use Rattle.wording.proofs.page.up_to.Reads as up-to-reads
+
+skip-requires : tie.Need-skip-requires
+skip-requires c κs = search needs
+
+up-to-requires : tie.Need-up-to-requires
+up-to-requires c κs = search needs
+
+same-length : tie.Need-same-length
+same-length c = search needs
+
+returns : tie.Need-returns
+unfolding piece
+returns c = rw (c .before .before .before .skip .ensures) (c .before .before .up-to .ensures)
+
+pub words-spec : {M : Type 1} → statement M
+words-spec = tie.close (tie.spec skip-requires up-to-requires same-length returns)

@@ -1,0 +1,73 @@
+-- `template::fill_from` meets its contract: at each turn what is to be written from the start is what is to be written from here.
+use Prim.Native.Nat.{_-_}
+use lib.ListN.{length}
+use mathlib.Core.Path.{refl}
+use Rattle.wording.proofs.Filling.{At, at-start, at-bar, at-more, at-end}
+use borrow.Author.Needs.{needs}
+use Rattle.wording.proofs.template.fill_from.Statement.{statement}
+use Rattle.wording.proofs.template.fill_from.Tie as tie
+use Rattle.wording.proofs.template.fill_from.Reads as reads
+use Rattle.wording.proofs.template.fill_from.Lts as lts
+use Rattle.wording.proofs.page.wide.Reads as wide-reads
+use Rattle.wording.proofs.template.part.Reads as part-reads
+
+abbrev Inv-loop : tie.InvT-loop
+Inv-loop out₀ at text from facts k₀ i₀ out k i = At text facts from out₀ at out k i
+
+abbrev μ-loop : tie.MeasureT-loop
+μ-loop out₀ at text from facts k₀ i₀ out k i = length text - i
+
+loop-holds : tie.Need-loop-holds Inv-loop μ-loop
+loop-holds c = at-start _ _ _ _ _
+
+shared-slice-read-wide : tie.Need-shared-slice-read-wide Inv-loop μ-loop
+shared-slice-read-wide c = search needs
+
+wide-requires : tie.Need-wide-requires Inv-loop μ-loop
+wide-requires c κs = search needs
+
+same-length : tie.Need-same-length Inv-loop μ-loop
+same-length c = c .before .before .before .before .loop .inv .kept
+
+returns : tie.Need-returns Inv-loop μ-loop
+returns c = at-bar _ _ _ _ _ _ _ _ (c .before .before .before .before .loop .inv) _ (c .before .wide .ensures .0) (c .before .before .before .loop-test .taken) (c .if1 .taken)
+
+shared-slice-read-part : tie.Need-shared-slice-read-part Inv-loop μ-loop
+shared-slice-read-part c = search needs
+
+part-requires : tie.Need-part-requires Inv-loop μ-loop
+part-requires c κs = search needs
+
+add-i : tie.Need-add-i Inv-loop μ-loop
+add-i c = search needs
+
+loop-less : tie.Need-loop-less Inv-loop μ-loop
+loop-less c = search needs
+
+loop-again : tie.Need-loop-again Inv-loop μ-loop
+loop-again c = at-more _ _ _ _ _ _ _ _ (c .before .before .before .before .before .before .before .before .before .loop .inv) _ _ _ _ (c .before .before .before .before .before .before .wide .ensures .0) refl (c .before .before .before .before .before .before .before .before .loop-test .taken) (c .before .before .before .before .before .if1 .left) (c .before .before .part .ensures) (c .before .before .part .kept .0)
+
+same-length-2 : tie.Need-same-length-2 Inv-loop μ-loop
+same-length-2 c = c .before .loop .inv .kept
+
+returns-2 : tie.Need-returns-2 Inv-loop μ-loop
+returns-2 c = at-end _ _ _ _ _ _ _ _ (c .before .loop .inv) (c .loop-test .left)
+
+pub fill-from-spec : {M : Type 1} → statement M
+fill-from-spec =
+    tie.close
+    (tie.spec
+    Inv-loop
+    μ-loop
+    loop-holds
+    shared-slice-read-wide
+    wide-requires
+    same-length
+    returns
+    shared-slice-read-part
+    part-requires
+    add-i
+    loop-less
+    loop-again
+    same-length-2
+    returns-2)
