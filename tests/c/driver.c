@@ -7,9 +7,8 @@
  */
 #include "../../include/waxdapple.h"
 #include "baseline.h"
-#include <stdio.h>
+#include "lines.h"
 #include <stdlib.h>
-#include <string.h>
 
 #define CANARY 0xA5u
 #define MARGIN 64
@@ -72,15 +71,6 @@ static struct answer check(const uint8_t *sheet, size_t n, const uint8_t *certif
     return r;
 }
 
-static unsigned digit(char c) { return c <= '9' ? (unsigned)(c - '0') : (unsigned)(c - 'a' + 10); }
-
-static size_t unhex(const char *s, uint8_t *to) {
-    size_t n = 0;
-    if (!strcmp(s, "-")) return 0;
-    for (; s[0] && s[1]; s += 2) to[n++] = (uint8_t)(16 * digit(s[0]) + digit(s[1]));
-    return n;
-}
-
 static uint8_t sheet[LONGEST], certificate[LONGEST];
 static char line[2 * LONGEST + 100], first[2 * LONGEST], second[2 * LONGEST];
 
@@ -91,17 +81,11 @@ static int replay(void) {
         struct answer r;
         if (sscanf(line, "E %llu %zu %s", &budget, &room, first) == 3) {
             r = evaluate(sheet, unhex(first, sheet), (size_t)budget, room < ROOM ? room : ROOM);
-            if (r.number) printf("E %zu %zu\n", r.number, r.values[0]);
-            else {
-                printf("E 0 %zu %zu %zu ", r.values[0], r.values[1], r.values[2]);
-                for (size_t i = 0; i < r.values[0]; i++) printf("%02x", output[MARGIN + i]);
-                printf("\n");
-            }
+            print_evaluation(r.number, r.values, output + MARGIN);
         } else if (sscanf(line, "C %s %s", first, second) == 2) {
             size_t n = unhex(first, sheet);
             r = check(sheet, n, certificate, unhex(second, certificate));
-            if (r.number) printf("C %zu %zu\n", r.number, r.values[0]);
-            else printf("C 0 %zu %zu\n", r.values[0], r.values[1]);
+            print_check(r.number, r.values[0], r.values[1]);
         } else printf("?\n");
     }
     return 0;

@@ -16,5 +16,3 @@ pub mod Hypotheses
 pub mod Announcing
 pub mod Calls
 pub mod Matches
--- what is allowed agrees
-pub mod Agreeing

@@ -2,3 +2,5 @@
 // every input has one answer; a sheet is accepted exactly when the rules derive a conclusion, with that derivation's certificate;
 // an accepted answer stands when the sheet grows, and its conclusion is true.
 // specs/Demands.antt has the statements, in the order of the three demands; proofs/Demanded.antt proves them.
+// specs/Wrong.antt has doors that the contracts shut out, each by what it does; proofs/ShutOut.antt and
+// proofs/ShutOutChecks.antt refute them, and proofs/WrongDoors.antt has a door for each.

@@ -1,6 +1,6 @@
 // Numbers in the bytes of a sheet or a certificate: groups of seven bits, low group first, shortest form only, at most 65,535.
-// A cursor, a place by value, says where: reading gives the number and the place past it, or the refusal that the definition names, at the number's place.
-// `read` is the one way to a cursor for every other caller, by bytes and a place.
+// Reading gives the number and the place past it, or the refusal that the definition names, at the number's place.
+// A cursor keeps the lent bytes with its place. Its functions are thin, over one of bytes and a place; `read` is the one way to it for every other caller.
 // Writing stores the shortest form straight into the output; proofs/ReadBack.antt shows that reading it there gives the number.
 ghost use mathlib.Core.Path.{_≡_};
 ghost use Prim.Native.Nat.{_+_, _<_, _≤_};
@@ -16,8 +16,9 @@ pub enum Number {
     Refused(usize, usize),
 }
 
-// A place among bytes, where a number is to be read.
-pub struct Cursor {
+// Lent bytes and a place among them, where a number is to be read.
+pub struct Cursor<'a> {
+    pub src: &'a [u8],
     pub at: usize,
 }
 
@@ -25,22 +26,21 @@ pub struct Cursor {
 pub fn read(s: &[u8], at: usize) -> Number
     ensures { λ r. ⌜ gotten r ≡ number (now (s .entry)) at ⌝ }
 {
-    number_at(s, Cursor { at: at })
+    number_at(cursor_at(s, at))
+}
+
+// The cursor at a place of the bytes.
+pub fn cursor_at<'a>(src: &'a [u8], at: usize) -> Cursor<'a>
+    ensures { λ c. ⌜ (c .src ≡ src .entry) × (c .at ≡ at) ⌝ }
+{
+    Cursor { src, at }
 }
 
 // The number at the cursor.
-pub fn number_at(s: &[u8], c: Cursor) -> Number
-    ensures { λ r. ⌜ gotten r ≡ number (now (s .entry)) (c .at) ⌝ }
+pub fn number_at<'a>(c: Cursor<'a>) -> Number
+    ensures { λ r. ⌜ gotten r ≡ number (now (c .entry .src)) (c .entry .at) ⌝ }
 {
-    let at = c.at;
-    if at < s.len() {
-        let b = wide(s[at]);
-        if b < 128 {
-            return Number::Got(b, at + 1);
-        }
-        return second_group(s, c, b - 128);
-    }
-    Number::Refused(refusal::BYTES_END, at)
+    first_group(c.src, c.at)
 }
 
 // The number at a place, from low to top; any other is out of range.
@@ -104,12 +104,25 @@ pub fn write(out: &mut [u8], at: usize, v: usize) -> usize
     at + 3
 }
 
-// What follows a first group at the cursor that gives low and continues.
-fn second_group(s: &[u8], c: Cursor, low: usize) -> Number
-    requires { ⌜ (c .at < length (now s)) × (low < 128) ⌝ }
-    ensures { λ r. ⌜ gotten r ≡ second (now (s .entry)) (c .at) low ⌝ }
+// The number whose first group is at a place.
+fn first_group(s: &[u8], at: usize) -> Number
+    ensures { λ r. ⌜ gotten r ≡ number (now (s .entry)) at ⌝ }
 {
-    let at = c.at;
+    if at < s.len() {
+        let b = wide(s[at]);
+        if b < 128 {
+            return Number::Got(b, at + 1);
+        }
+        return second_group(s, at, b - 128);
+    }
+    Number::Refused(refusal::BYTES_END, at)
+}
+
+// What follows a first group at a place that gives low and continues.
+fn second_group(s: &[u8], at: usize, low: usize) -> Number
+    requires { ⌜ (at < length (now s)) × (low < 128) ⌝ }
+    ensures { λ r. ⌜ gotten r ≡ second (now (s .entry)) at low ⌝ }
+{
     let i = at + 1;
     if i < s.len() {
         let b = wide(s[i]);
@@ -119,17 +132,16 @@ fn second_group(s: &[u8], c: Cursor, low: usize) -> Number
             }
             return Number::Refused(refusal::NOT_SHORTEST, at);
         }
-        return third_group(s, c, low + 128 * (b - 128));
+        return third_group(s, at, low + 128 * (b - 128));
     }
     Number::Refused(refusal::BYTES_END, at)
 }
 
-// What follows two groups at the cursor that give low, the second of which continues.
-fn third_group(s: &[u8], c: Cursor, low: usize) -> Number
-    requires { ⌜ (c .at + 1 < length (now s)) × (low < 16384) ⌝ }
-    ensures { λ r. ⌜ gotten r ≡ third (now (s .entry)) (c .at) low ⌝ }
+// What follows two groups at a place that give low, the second of which continues.
+fn third_group(s: &[u8], at: usize, low: usize) -> Number
+    requires { ⌜ (at + 1 < length (now s)) × (low < 16384) ⌝ }
+    ensures { λ r. ⌜ gotten r ≡ third (now (s .entry)) at low ⌝ }
 {
-    let at = c.at;
     let i = at + 2;
     if i < s.len() {
         let b = wide(s[i]);

@@ -18,14 +18,14 @@ shared-slice-read-wide c = search needs
 wide-requires : tie.Need-wide-requires
 wide-requires c κs = search needs
 
-mul-t13 : tie.Need-mul-t13
-mul-t13 c = search needs
+mul-t12 : tie.Need-mul-t12
+mul-t12 c = search needs
+
+add-t13 : tie.Need-add-t13
+add-t13 c = search needs
 
 add-t14 : tie.Need-add-t14
 add-t14 c = search needs
-
-add-t15 : tie.Need-add-t15
-add-t15 c = search needs
 
 returns : tie.Need-returns
 unfolding second check pick
@@ -59,9 +59,9 @@ second-group-spec =
     add-i
     shared-slice-read-wide
     wide-requires
-    mul-t13
+    mul-t12
+    add-t13
     add-t14
-    add-t15
     returns
     returns-2
     mul-third-group

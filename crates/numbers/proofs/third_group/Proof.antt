@@ -24,8 +24,8 @@ mul-v c = search needs
 add-v : tie.Need-add-v
 add-v c = search needs
 
-add-t16 : tie.Need-add-t16
-add-t16 c = search needs
+add-t15 : tie.Need-add-t15
+add-t15 c = search needs
 
 returns : tie.Need-returns
 unfolding third check
@@ -54,7 +54,7 @@ third-group-spec =
     wide-requires
     mul-v
     add-v
-    add-t16
+    add-t15
     returns
     returns-2
     returns-3)
