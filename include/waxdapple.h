@@ -40,6 +40,8 @@ extern "C" {
  * counts, and out is untouched past it. Else the answer is the refusal's number (1 to 18), *place its place, *work and *inferences are 0, and out
  * is untouched. */
 size_t waxdapple_evaluate(
+    const uint8_t *sheet, size_t sheet_length,
+    size_t budget,
     uint32_t *listing, size_t listing_length,
     uint32_t *forms, size_t forms_length,
     uint32_t *patterns, size_t patterns_length,
@@ -47,21 +49,19 @@ size_t waxdapple_evaluate(
     uint32_t *base, size_t base_length,
     uint32_t *bindings, size_t bindings_length,
     uint32_t *tokens, size_t tokens_length,
-    const uint8_t *sheet, size_t sheet_length,
-    size_t budget,
     uint8_t *out, size_t out_length,
     size_t *place, size_t *work, size_t *inferences);
 
 /* Checks a certificate alone against a sheet. Answers 0 where it stands: *place is the number of its conclusion among the propositions it lists,
  * *inferences its rules. Else the answer is the refusal's number (2 to 7, 13, 14, 19, 20, 35 to 39), *place its place, and *inferences is 0. */
 size_t waxdapple_check(
+    const uint8_t *sheet, size_t sheet_length,
+    const uint8_t *certificate, size_t certificate_length,
     uint32_t *names, size_t names_length,
     uint32_t *forms, size_t forms_length,
     uint32_t *patterns, size_t patterns_length,
     uint32_t *phrases, size_t phrases_length,
     uint32_t *base, size_t base_length,
-    const uint8_t *sheet, size_t sheet_length,
-    const uint8_t *certificate, size_t certificate_length,
     size_t *place, size_t *inferences);
 
 #ifdef __cplusplus

@@ -55,9 +55,8 @@ static struct answer evaluate(const uint8_t *sheet, size_t n, size_t budget, siz
     struct answer r;
     prepare(b, 7);
     memset(output, CANARY, sizeof output);
-    r.number = waxdapple_evaluate(lent(b), b[0].length, lent(b + 1), b[1].length, lent(b + 2), b[2].length, lent(b + 3), b[3].length,
-        lent(b + 4), b[4].length, lent(b + 5), b[5].length, lent(b + 6), b[6].length, sheet, n, budget, output + MARGIN, room,
-        &r.values[0], &r.values[1], &r.values[2]);
+    r.number = waxdapple_evaluate(sheet, n, budget, lent(b), b[0].length, lent(b + 1), b[1].length, lent(b + 2), b[2].length, lent(b + 3), b[3].length,
+        lent(b + 4), b[4].length, lent(b + 5), b[5].length, lent(b + 6), b[6].length, output + MARGIN, room, &r.values[0], &r.values[1], &r.values[2]);
     return r;
 }
 
@@ -66,8 +65,8 @@ static struct answer check(const uint8_t *sheet, size_t n, const uint8_t *certif
     struct answer r;
     prepare(b, 5);
     r.values[2] = 0;
-    r.number = waxdapple_check(lent(b), b[0].length, lent(b + 1), b[1].length, lent(b + 2), b[2].length, lent(b + 3), b[3].length,
-        lent(b + 4), b[4].length, sheet, n, certificate, m, &r.values[0], &r.values[1]);
+    r.number = waxdapple_check(sheet, n, certificate, m, lent(b), b[0].length, lent(b + 1), b[1].length, lent(b + 2), b[2].length, lent(b + 3), b[3].length,
+        lent(b + 4), b[4].length, &r.values[0], &r.values[1]);
     return r;
 }
 
@@ -165,16 +164,16 @@ static void short_buffers(void) {
         prepare(b, 7);
         memset(output, CANARY, sizeof output);
         for (int j = 0; j < 7; j++) l[j] = b[j].fixed - (i == j);
-        if (waxdapple_evaluate(lent(b), l[0], lent(b + 1), l[1], lent(b + 2), l[2], lent(b + 3), l[3], lent(b + 4), l[4], lent(b + 5), l[5], lent(b + 6), l[6],
-                sheets[0].at, sheets[0].length, 1024, output + MARGIN, ROOM, &place, &work, &inferences) != 2 || place || !kept(b, 7, 1)) fail("a short buffer of an evaluation", (size_t)i);
+        if (waxdapple_evaluate(sheets[0].at, sheets[0].length, 1024, lent(b), l[0], lent(b + 1), l[1], lent(b + 2), l[2], lent(b + 3), l[3], lent(b + 4), l[4],
+                lent(b + 5), l[5], lent(b + 6), l[6], output + MARGIN, ROOM, &place, &work, &inferences) != 2 || place || !kept(b, 7, 1)) fail("a short buffer of an evaluation", (size_t)i);
     }
     for (int i = 0; i < 5; i++) {
         struct buffer *b = checking;
         size_t l[5], place, inferences;
         prepare(b, 5);
         for (int j = 0; j < 5; j++) l[j] = b[j].fixed - (i == j);
-        if (waxdapple_check(lent(b), l[0], lent(b + 1), l[1], lent(b + 2), l[2], lent(b + 3), l[3], lent(b + 4), l[4],
-                sheets[0].at, sheets[0].length, certificates[0].at, certificates[0].length, &place, &inferences) != 2 || place || !kept(b, 5, 1)) fail("a short buffer of a check", (size_t)i);
+        if (waxdapple_check(sheets[0].at, sheets[0].length, certificates[0].at, certificates[0].length, lent(b), l[0], lent(b + 1), l[1], lent(b + 2), l[2],
+                lent(b + 3), l[3], lent(b + 4), l[4], &place, &inferences) != 2 || place || !kept(b, 5, 1)) fail("a short buffer of a check", (size_t)i);
     }
 }
 

@@ -213,6 +213,8 @@ fn evaluated(out: &mut [u8], sheet: &[u8], budget: usize) {
     let mut binds = [0u32; 16384];
     let mut tokens = [0u32; 11264];
     match evaluator::evaluate(
+        sheet,
+        budget,
         &mut listing,
         &mut forms,
         &mut patterns,
@@ -220,8 +222,6 @@ fn evaluated(out: &mut [u8], sheet: &[u8], budget: usize) {
         &mut base,
         &mut binds,
         &mut tokens,
-        sheet,
-        budget,
         out,
     ) {
         Evaluated::Accepted(n, work, inferences) => accepted(sheet, &out[..n], work, inferences),
@@ -256,13 +256,13 @@ fn checked(sheet: &[u8], certificate: &[u8]) {
     let mut phrases = [0u32; 6144];
     let mut base = [0u32; 576];
     match checker::check(
+        sheet,
+        certificate,
         &mut names,
         &mut forms,
         &mut patterns,
         &mut phrases,
         &mut base,
-        sheet,
-        certificate,
     ) {
         Checked::Stands(conclusion, inferences) => {
             labelled(b"\n  stands, conclusion", conclusion);

@@ -11,9 +11,9 @@ use Rattle.language.specs.Numbers.{groups}
 use Rattle.language.specs.Rules.{arity}
 use Rattle.language.specs.Plain.{Plain, infer, seq, under, inferences}
 use Rattle.language.specs.Certificate.{listed, listedAll, needed, indexOf, references, proofBytes}
-use Rattle.theorems.proofs.Lists.{All}
+use Rattle.theorems.specs.Lists.{All}
 use Rattle.theorems.proofs.Listing.{Names as Naming}
-use Rattle.numbers.proofs.Groups.{one-group}
+use Rattle.theorems.proofs.Spelling.{one-group}
 use Rattle.bindings.specs.Stands.{Is}
 use Rattle.tokens.specs.Tells.{Names, Tells}
 use Rattle.certificates.specs.Emitted.{headBy, ruleBytes, headBytes}

@@ -1,6 +1,6 @@
 -- The language's `listed`, opened: what is listed stays, what is not goes behind its parts.
 use Prim.Native.Nat.{ℕ, suc, _+_, _≤_, _<_}
-use mathlib.Core.Path.{_≡_, refl, ap}
+use mathlib.Core.Path.{_≡_, refl}
 use mathlib.Core.Bool.{Bool, true, false, _||_}
 use mathlib.Core.List.{List, [], _∷_, _++_}
 use native.Mathlib.Omega.{arith}
@@ -9,8 +9,8 @@ use lib.ListN.{length}
 use Rattle.language.specs.Form.{Form, atom, verum, falsum, neg, bin, same, member}
 use Rattle.language.specs.Numbers.{pick}
 use Rattle.language.specs.Certificate.{listed, indexOf}
-use Rattle.theorems.proofs.Members.{not-same, member-append}
-use Rattle.theorems.proofs.Listing.{size}
+use Rattle.theorems.proofs.Members.{member-append}
+use Rattle.theorems.proofs.Listing.{size, listed-fresh}
 use Rattle.forms.specs.Word.{Rec, atomR, verumR, falsumR, negR, binR, kindC, code, Below, kind, left, right}
 use Rattle.forms.specs.Table.{tree, formed}
 use Rattle.forms.proofs.Records.{kind-word, left-word, right-word, kindC-from, kindC-to}
@@ -39,25 +39,6 @@ listed-new verum l h = rw h
 listed-new falsum l h = rw h
 listed-new (neg p) l h = rw h
 listed-new (bin c p q) l h = rw h
-
--- listing a proposition lists nothing that is larger
-module _ (r : Form) where
-  picked-fresh : (l m : List Form) (p : Form) (t : Bool) → size p < size r → member r l ≡ false → member r m ≡ false → member r (pick t l (m ++ (p ∷ []))) ≡ false
-  unfolding pick member
-  picked-fresh l m p true s h g = h
-  picked-fresh l m p false s h g =
-      let n : same r p ≡ false = not-same r p (λ e. let z = ap size e in omega arith) in
-      rw (member-append r m (p ∷ []), g, n)
-
-  pub listed-fresh : (p : Form) (l : List Form) → size p < size r → member r l ≡ false → member r (listed p l) ≡ false
-  unfolding listed size
-  listed-fresh (atom a) l s h = picked-fresh l l (atom a) (member (atom a) l) s h h
-  listed-fresh verum l s h = picked-fresh l l verum (member verum l) s h h
-  listed-fresh falsum l s h = picked-fresh l l falsum (member falsum l) s h h
-  listed-fresh (neg p) l s h = picked-fresh l (listed p l) (neg p) (member (neg p) l) s h (listed-fresh p l (omega arith) h)
-  listed-fresh (bin c p q) l s h =
-      picked-fresh l (listed q (listed p l)) (bin c p q) (member (bin c p q) l) s h
-      (listed-fresh q (listed p l) (omega arith) (listed-fresh p l (omega arith) h))
 
 -- so a proposition that is not listed is not behind its parts either
 pub behind-fresh : (p : Form) (l : List Form) → member p l ≡ false → member p (behind p l) ≡ false

@@ -4,14 +4,14 @@ use mathlib.Core.Path.{_≡_, refl, ap, _∙_}
 use mathlib.Core.List.{List, [], _∷_, _++_, append-nil}
 use native.Mathlib.Omega.{arith}
 use lib.ListN.{length, getD}
-use Rattle.language.specs.Form.{Conn, conj, disj, cond, bicond, Form, atom, verum, falsum, neg, bin}
+use Rattle.language.specs.Form.{Conn, conj, disj, cond, bicond, Form}
 use Rattle.language.specs.Numbers.{groups}
 use Rattle.language.specs.Run.{Derived}
 use Rattle.language.specs.Certificate.{indexOf, connKind, recordOf, listing}
 use Rattle.theorems.proofs.Members.{_∈_, not-in-nil}
-use Rattle.theorems.proofs.Closed.{Parts, Parts-in, Closed, closed-snoc}
-use Rattle.theorems.proofs.Listing.{found, names-map, listing-ind, listing-names}
-use Rattle.numbers.proofs.Groups.{one-group}
+use Rattle.theorems.proofs.Closed.{Parts-in, Closed, closed-snoc}
+use Rattle.theorems.proofs.Listing.{found, any-parts, names-map, listing-ind, listing-names}
+use Rattle.theorems.proofs.Spelling.{one-group}
 use Rattle.forms.specs.Word.{Rec, atomR, verumR, falsumR, negR, binR, kindC, code, Below, kind, left, right}
 use Rattle.forms.specs.Table.{tree, formed}
 use Rattle.forms.proofs.Records.{kind-word, left-word, right-word, kindC-to}
@@ -23,13 +23,6 @@ use Rattle.certificates.proofs.Growing.{mark-there}
 use Rattle.certificates.proofs.Marking.{few}
 
 -- the parts of what a certificate lists are listed
-any-parts : (p : Form) → Unit {0} → Parts (λ q. Unit {0}) p
-any-parts (atom a) u = tt
-any-parts verum u = tt
-any-parts falsum u = tt
-any-parts (neg p) u = tt
-any-parts (bin c p q) u = (tt, tt)
-
 pub listing-closed : (d : Derived) → Closed (listing d)
 listing-closed d =
     listing-ind (λ p. Unit {0}) any-parts Closed (λ l p c q h new. closed-snoc l p c h) d

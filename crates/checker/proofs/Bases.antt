@@ -1,17 +1,13 @@
 -- A base is a set: what a proof concludes depends on what is in the base, not on the order in which it stands there.
-use Prim.Native.Nat.{ℕ, zero, suc, _≤_, _<_}
-use mathlib.Core.Path.{_≡_, refl, sym, ap, ap₂, _∙_}
-use mathlib.Core.Bool.{Bool, true, false, _&&_, _||_}
-use mathlib.Core.List.{List, [], _∷_, _++_}
-use native.Mathlib.Omega.{arith}
-use lib.ListN.{length, getD, take}
-use lib.Seq.{take-suc}
+use Prim.Native.Nat.{ℕ}
+use mathlib.Core.Path.{_≡_, refl, ap, _∙_}
+use mathlib.Core.Bool.{Bool}
+use mathlib.Core.List.{List, _∷_}
 use Rattle.language.specs.Refusals.{premise-missing}
-use Rattle.language.specs.Form.{Form, cond, verum, bin, same, member, members}
+use Rattle.language.specs.Form.{Form, cond, bin}
 use Rattle.language.specs.Rules.{Ruled, gives, misshapen, ruled}
 use Rattle.language.specs.Numbers.{Got, got, no, then, check}
 use Rattle.language.specs.Check.{Node, ruleN, seqN, underN, ruledIn, concluded}
-use Rattle.forms.specs.Table.{tree}
 use Rattle.rules.specs.Base.{Alike}
 use Rattle.rules.proofs.Sets.{alike-more, members-alike}
 

@@ -5,14 +5,14 @@ use mathlib.Core.Path.{_≡_, sym, ap, ap₂, _∙_}
 use mathlib.Core.Bool.{true}
 use mathlib.Core.List.{List, [], _∷_}
 use Rattle.language.specs.Check.{Verdict, stands, falls, verdict}
-use Rattle.language.specs.Doors.{checkedNumbers, verdictNumbers, checkLengths, enough, Checking, checking}
+use Rattle.language.specs.Doors.{checkedNumbers, verdictNumbers, checkLengths, enough, Checking}
 use Rattle.language.specs.declared.Checked.{Checked}
 use Rattle.language.specs.declared.Checked.the-variants.{Stands, Falls}
 use Rattle.theorems.specs.Demands.{Checks-exactly, Stands-true}
 use Rattle.theorems.proofs.Checking.{checks-exactly, stands-true}
 use Rattle.checker.specs.Verdicts.{scratch, Checks}
 use Rattle.checker.specs.Demand.{Check-exactly, Check-true}
-use Rattle.checker.proofs.SheetPassing.{checking-enough}
+use Rattle.checker.proofs.Scratch.{checking-enough}
 
 -- the numbers of an accepted verdict are its own
 accepted-is : (v : Verdict) (k i : ℕ) → verdictNumbers v ≡ 0 ∷ (k ∷ (i ∷ [])) → v ≡ stands k i

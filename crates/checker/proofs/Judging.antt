@@ -16,7 +16,7 @@ use Rattle.language.specs.Check.{Node, plain, Counted, node, Certificate, concl
 use Rattle.language.specs.Doors.{checkedNumbers, verdictNumbers}
 use Rattle.language.specs.declared.Checked.the-variants.{Stands, Falls}
 use Rattle.language.specs.declared.Inferences.{Inferences}
-use Rattle.numbers.proofs.Bounds.{check-got, below-got}
+use Rattle.numbers.proofs.Bounds.{then-got, check-got, below-got}
 use Rattle.forms.specs.Table.{tree}
 use Rattle.forms.proofs.Trees.{same-at}
 use Rattle.rules.specs.Base.{baseOf}
@@ -26,7 +26,7 @@ use Rattle.checker.specs.declared.Walked.the-variants.{Concluded, Refuse
 use Rattle.checker.specs.Walk.{nodeAt, Setting, Room, Awaits, Meets, Walks}
 use Rattle.checker.specs.Tally.{proofAt, certified}
 use Rattle.checker.specs.Judge.{Stating, Judged}
-use Rattle.checker.proofs.Readings.{then-got, got-both}
+use Rattle.checker.proofs.Readings.{got-both}
 use Rattle.checker.proofs.Tallies.{node-within}
 use Rattle.checker.proofs.Stacks.{more-words, old-trees}
 use Rattle.checker.proofs.Meetings.{After, after-walk}

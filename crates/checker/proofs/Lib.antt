@@ -13,5 +13,6 @@ pub mod Judging
 pub mod Bases
 pub mod Certificates
 pub mod Passing
+pub mod Scratch
 pub mod SheetPassing
 pub mod Demanded

@@ -13,10 +13,10 @@ use Rattle.language.specs.Rules.{arity}
 use Rattle.language.specs.Numbers.{got, no, check, from, times}
 use Rattle.language.specs.Read.{reference}
 use Rattle.language.specs.Check.{ruleN, seqN, underN, Counted, ReadNode, ruleNode, inner, node}
-use Rattle.numbers.proofs.Bounds.{not-got, check-got, from-got}
+use Rattle.numbers.proofs.Bounds.{then-got, not-got, check-got, from-got}
 use Rattle.checker.specs.Places.{valueAt, nextAt}
 use Rattle.checker.specs.Walk.{restBy, ruleAt, twoAt, underAt}
-use Rattle.checker.proofs.Readings.{then-got, got-both, number-got}
+use Rattle.checker.proofs.Readings.{got-both, number-got}
 
 -- a node that was read has nesting left, a kind, and a rest
 pub record Opened (d : ℕ) (s : List ℕ) (ps : List Form) (used at : ℕ) (c : Counted) (next : ℕ) : Type 0 where

@@ -2,8 +2,8 @@
 -- the answer is the definitions' verdict.
 use Prim.Native.Nat.{ℕ, _+_, _≤_, _<_}
 use native.Mathlib.Omega.{arith}
-use mathlib.Core.Path.{_≡_, refl, sym, ap, subst, _∙_}
-use mathlib.Core.List.{List, [], _∷_, _++_, append-nil}
+use mathlib.Core.Path.{_≡_, refl, sym, ap, _∙_}
+use mathlib.Core.List.{List, [], _++_, append-nil}
 use lib.ListN.{length, getD, take, length-append}
 use lib.Seq.{take-all}
 use Rattle.language.specs.Form.{Form, member}
@@ -13,10 +13,9 @@ use Rattle.language.specs.Check.{Certificate, certificate-at, stated, concluded
 use Rattle.language.specs.Doors.{checkedNumbers, verdictNumbers}
 use Rattle.language.specs.declared.Checked.{Checked}
 use Rattle.language.specs.declared.Checked.the-variants.{Falls}
-use Rattle.theorems.proofs.Reading.{Ensures, given, ensure, ensured, ensures-times}
-use Rattle.words.specs.Front.{front}
+use Rattle.theorems.proofs.Reading.{ensure, ensured, ensures-times}
 use Rattle.words.proofs.Fronts.{take-front, getD-front, length-front}
-use Rattle.forms.specs.Table.{tree, Table}
+use Rattle.forms.specs.Table.{Table}
 use Rattle.forms.proofs.Growth.{tree-more}
 use Rattle.records.specs.Reading.{Props, naming}
 use Rattle.records.specs.Answers.{ends}
@@ -32,7 +31,7 @@ use Rattle.checker.specs.declared.ProofRead.the-variants as proof
 use Rattle.checker.specs.Walk.{Setting}
 use Rattle.checker.specs.Tally.{proofAt, ownNumber, certified}
 use Rattle.checker.specs.Judge.{Judged}
-use Rattle.checker.specs.Verdicts.{verdictIn, Standing, Fixed, Begun, Answers, listingAt, Listed, ProofAnswers}
+use Rattle.checker.specs.Verdicts.{verdictIn, Standing, Fixed, Answers, listingAt, Listed, ProofAnswers}
 use Rattle.rules.specs.Base.{Alike}
 use Rattle.rules.proofs.Sets.{stack-alike}
 use Rattle.checker.proofs.Bases.{concluded-alike}

@@ -12,18 +12,19 @@ use Rattle.language.specs.Rules.{arity, Ruled, gives, misshapen, table, ruled}
 use Rattle.language.specs.Numbers.{Got, got, check, below, times}
 use Rattle.language.specs.Read.{reference}
 use Rattle.language.specs.Check.{Counted, ruledIn, concluded}
-use Rattle.numbers.proofs.Bounds.{below-got}
+use Rattle.numbers.proofs.Bounds.{then-got, below-got}
 use Rattle.words.proofs.Fronts.{take-front}
 use Rattle.forms.specs.Table.{tree}
 use Rattle.forms.proofs.Trees.{truth-at}
 use Rattle.rules.specs.declared.Applied.{Applied}
 use Rattle.rules.specs.Base.{baseOf}
+use Rattle.rules.proofs.Arguments.{three, ruled-at}
 use Rattle.rules.specs.Applied.{Ready, whether, outcome, Comes, Ruling}
 use Rattle.checker.specs.declared.Arguments.{Arguments}
 use Rattle.checker.specs.declared.Walked.{Walked}
 use Rattle.checker.specs.Places.{valueAt, nextAt, nameAt, nameIf, nextIf, argumentsAt}
 use Rattle.checker.specs.Walk.{ruleAt, Setting, Room, Awaits, walkedOf, Meets, Walks}
-use Rattle.checker.proofs.Readings.{then-got, got-both, number-got}
+use Rattle.checker.proofs.Readings.{got-both, number-got}
 use Rattle.checker.proofs.Nodes.{rule-read}
 
 -- a listed proposition that was read is the tree at its name
@@ -101,46 +102,6 @@ module _ (s : List ℕ) (ps : List Form) (names : List ℕ) (fs : List Form) (n 
       }
   times-read (suc (suc (suc (suc k)))) h at xs next e = absurd (omega arith)
 
--- no rule takes more than three arguments
-AtMost : ℕ → List ℕ → Type 0
-AtMost m [] = Unit {0}
-AtMost m (x ∷ xs) = (x ≤ m) × AtMost m xs
-
-at-most : (m : ℕ) (xs : List ℕ) → AtMost m xs → (r : ℕ) → getD xs r 0 ≤ m
-unfolding AtMost
-at-most m [] h r = omega arith
-at-most m (x ∷ xs) h zero = h .0
-at-most m (x ∷ xs) h (suc r) = at-most m xs (h .1) r
-
-three : (r : ℕ) → getD arity r 0 ≤ 3
-unfolding AtMost
-three =
-    at-most 3 arity (
-      omega arith,
-      (
-        omega arith,
-        (
-          omega arith,
-          (
-            omega arith,
-            (
-              omega arith,
-              (
-                omega arith,
-                (
-                  omega arith,
-                  (
-                    omega arith,
-                    (omega arith, (omega arith, (omega arith, (omega arith, (omega arith, (omega arith, (omega arith, (omega arith, tt)))))))),
-                  ),
-                ),
-              ),
-            ),
-          ),
-        ),
-      ),
-    )
-
 -- what a rule comes to is what the definition concludes
 whether-meets : (v : Bool) (q : Form) (ws : List ℕ) (n : ℕ) (fs : List Form) (t₀ t : List ℕ) (used at next : ℕ) (answer : Applied) → Comes (whether v q ws) n fs t₀ t answer → Meets t fs n used (used + 1) next (walkedOf at next answer) (check v premise-missing at (got q at))
 unfolding whether check walkedOf
@@ -156,14 +117,6 @@ outcome-meets : (R : Ruled) (β : List Form) (ws : List ℕ) (n : ℕ) (fs : Lis
 unfolding outcome ruledIn walkedOf
 outcome-meets misshapen β ws n fs t₀ t used at next answer C = rw (C .answer) (refl, refl)
 outcome-meets (gives ps q) β ws n fs t₀ t used at next answer C = whether-meets (members ps β) q ws n fs t₀ t used at next answer C
-
--- a rule looks at its first three arguments
-ruled-at : (r : ℕ) (X Y Z : Form) (xs : List Form) → X ≡ getD xs 0 verum → Y ≡ getD xs 1 verum → Z ≡ getD xs 2 verum → ruled r (X ∷ (Y ∷ (Z ∷ []))) ≡ ruled r xs
-unfolding ruled
-ruled-at r X Y Z xs x y z =
-    ap (λ (u : Form). getD (table u Y Z) r misshapen) x
-    ∙ ap (λ (u : Form). getD (table (getD xs 0 verum) u Z) r misshapen) y
-    ∙ ap (λ (u : Form). getD (table (getD xs 0 verum) (getD xs 1 verum) u) r misshapen) z
 
 -- the rule at v and the arguments g, as the code takes them
 module _ (t base names s : List ℕ) (n b at a v c k : ℕ) (g : Arguments) (ev : (v ≡ valueAt s a) × (c ≡ nextAt s a)) (ek : k ≡ getD arity v 0) (eg : g ≡ argumentsAt names s k c) where

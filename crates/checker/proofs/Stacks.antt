@@ -1,10 +1,9 @@
 -- The base as a stack: what a push leaves below it, and what it adds.
-use Prim.Native.Nat.{ℕ, zero, suc, _+_, _≤_, _<_}
-use mathlib.Core.Path.{_≡_, refl, sym, ap, ap₂, _∙_}
+use Prim.Native.Nat.{ℕ, _+_, _≤_, _<_}
+use mathlib.Core.Path.{_≡_, sym, ap, ap₂, _∙_}
 use mathlib.Core.List.{List, _∷_, _++_}
 use native.Mathlib.Omega.{arith}
 use native.Mathlib.Numerals.{add-one}
-use native.Mathlib.Nat.{le-refl}
 use native.Mathlib.Decide.{decLt}
 use lib.ListN.{length, getD, set, take, length-set, length-append}
 use lib.Seq.{getD-take, getD-set-same, getD-set-other, length-take-le}
@@ -12,13 +11,8 @@ use Rattle.language.specs.Form.{Form}
 use Rattle.forms.specs.Table.{tree, Table}
 use Rattle.forms.proofs.Growth.{tree-more}
 use Rattle.rules.specs.Base.{baseOf}
+use Rattle.rules.proofs.Sets.{base-same}
 use Rattle.checker.specs.Walk.{Setting}
-
--- stacks whose numbers stand for the same trees
-pub base-same : (fs gs : List Form) (s u : List ℕ) (b : ℕ) → ((j : ℕ) → j < b → tree gs (getD u j 0) ≡ tree fs (getD s j 0)) → baseOf gs u b ≡ baseOf fs s b
-unfolding baseOf
-base-same fs gs s u zero h = refl
-base-same fs gs s u (suc b) h = ap₂ {C = List Form} (λ f β. f ∷ β) (h b (le-refl (suc b))) (base-same fs gs s u b (λ j l. h j (omega arith)))
 
 -- stacks that are the same up to a height
 pub same-below : (s u : List ℕ) (b j : ℕ) → take b u ≡ take b s → j < b → getD u j 0 ≡ getD s j 0

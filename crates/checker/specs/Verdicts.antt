@@ -6,7 +6,7 @@ use lib.ListN.{length, getD, take}
 use Rattle.language.specs.Form.{Form, verum}
 use Rattle.language.specs.Numbers.{Got, got, no, then, times}
 use Rattle.language.specs.Read.{proposition}
-use Rattle.language.specs.Check.{Certificate, Verdict, falls, concluded, stated, certificate-at}
+use Rattle.language.specs.Check.{Certificate, Verdict, falls, concluded, stated}
 use Rattle.language.specs.Doors.{checkedNumbers, verdictNumbers, Checking, checking}
 use Rattle.language.specs.declared.Checked.{Checked}
 use Rattle.forms.specs.Table.{tree, Table}

@@ -88,13 +88,13 @@ const NESTED: usize = 512;
 // The check of a certificate against a sheet, for every input. The scratch is refused where a buffer is shorter than fixed, and is then untouched;
 // else each buffer ends zero up to its fixed length and untouched past it.
 pub fn check(
+    sheet: &[u8],
+    certificate: &[u8],
     names: &mut [u32],
     forms: &mut [u32],
     patterns: &mut [u32],
     phrases: &mut [u32],
     base: &mut [u32],
-    sheet: &[u8],
-    certificate: &[u8],
 ) -> Checked
     ensures { λ r. ⌜ Checks (now (sheet .entry)) (now (certificate .entry)) r (now (names .entry)) (now (forms .entry)) (now (patterns .entry)) (now (phrases .entry)) (now (base .entry)) (now (names .exit)) (now (forms .exit)) (now (patterns .exit)) (now (phrases .exit)) (now (base .exit)) ⌝ }
 {

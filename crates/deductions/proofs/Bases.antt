@@ -1,32 +1,26 @@
 -- A base is a set on a stack: it grows from the top, and lemmas may join it in any order.
-use Prim.Native.Nat.{ℕ, zero, suc, _+_, _≤_, _<_}
+use Prim.Native.Nat.{ℕ, _+_, _≤_, _<_}
 use mathlib.Core.Path.{_≡_, refl, sym, ap, ap₂, _∙_}
-use mathlib.Core.Bool.{Bool, true, false, _&&_, _||_}
+use mathlib.Core.Bool.{Bool, _||_}
 use mathlib.Core.List.{List, [], _∷_, _++_}
 use native.Mathlib.Omega.{arith}
-use native.Mathlib.Nat.{le-refl}
 use native.Mathlib.Numerals.{add-one}
 use native.Mathlib.Decide.{decLt}
 use lib.ListN.{length, getD, set, length-append}
 use lib.Seq.{getD-set-same, getD-set-other}
-use Rattle.language.specs.Form.{Form, same, member, members}
+use Rattle.language.specs.Form.{Form, same, member}
 use Rattle.language.specs.Run.{Derived, joined}
 use Rattle.forms.specs.Table.{tree}
 use Rattle.forms.proofs.Growth.{tree-more}
 use Rattle.rules.specs.Base.{Alike, baseOf}
-use Rattle.rules.proofs.Sets.{alike-more}
+use Rattle.rules.proofs.Sets.{turned, base-same}
 use Rattle.deductions.specs.declared.Lemma.{Lemma}
 use Rattle.deductions.specs.declared.Lemma.the-variants.{Of, None}
-use Rattle.deductions.specs.Machine.{joinedAt, joining}
+use Rattle.deductions.specs.Machine.{joinedAt, joining, LowLemma}
 use Rattle.deductions.specs.Asked.{Based}
 use Rattle.deductions.specs.Meets.{Lemmas}
 
 -- sets
-
-turned : (a b c : Bool) → a || (b || c) ≡ b || (a || c)
-turned true true c = refl
-turned true false c = refl
-turned false b c = refl
 
 -- a proposition joined before lemmas or after them
 joined-front : (ds : List Derived) (q : Form) (β : List Form) → Alike (joined ds (q ∷ β)) (q ∷ joined ds β)
@@ -37,13 +31,6 @@ joined-front (d ∷ ds) q β p =
     ∙ ap (λ (b : Bool). same p (d .conclusion) || b) (joined-front ds q β p)
     ∙ turned (same p (d .conclusion)) (same p q) (member p (joined ds β))
     ∙ sym (ap (λ (b : Bool). same p q || b) (joined-front ds (d .conclusion) β p))
-
--- stacks
-
-base-same : (fs gs : List Form) (s u : List ℕ) (b : ℕ) → ((j : ℕ) → j < b → tree gs (getD u j 0) ≡ tree fs (getD s j 0)) → baseOf gs u b ≡ baseOf fs s b
-unfolding baseOf
-base-same fs gs s u zero h = refl
-base-same fs gs s u (suc b) h = ap₂ {C = List Form} (λ f β. f ∷ β) (h b (le-refl (suc b))) (base-same fs gs s u b (λ j l. h j (omega arith)))
 
 -- the table grows, the stack is the same below
 pub based-grew : (fs gs : List Form) (s u : List ℕ) (b : ℕ) (β : List Form) → ((j : ℕ) → j < b → getD u j 0 ≡ getD s j 0) → Based fs s b β → Based (fs ++ gs) u b β
@@ -98,3 +85,9 @@ based-front fs s b β None ds es h e B = let z : b + 0 ≡ b = omega arith in rw
 pub joined-below : (s : List ℕ) (b : ℕ) (l : Lemma) (j : ℕ) → j < b → getD (joinedAt s b l) j 0 ≡ getD s j 0
 joined-below s b (Of p) j h = getD-set-other s b j p 0 (λ e. omega arith)
 joined-below s b None j h = refl
+
+-- a lemma's number is small
+pub lemma-small : (fs : List Form) (l : Lemma) (ds : List Derived) → length fs ≤ 16384 → Lemmas fs l ds → LowLemma l
+unfolding Lemmas
+lemma-small fs (Of p) ds h (d, e, i) = let k = i .low in omega arith
+lemma-small fs None ds h e = tt

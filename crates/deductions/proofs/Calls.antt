@@ -20,6 +20,7 @@ use Rattle.bindings.specs.declared.Value.{Value}
 use Rattle.bindings.specs.declared.Value.the-variants.{Prop, Constructor, Function, Method}
 use Rattle.bindings.specs.Numbers.{Small}
 use Rattle.bindings.specs.Stands.{under, Stands, Chain}
+use Rattle.bindings.proofs.Tags.{tag, held, kindOf, same-kind}
 use Rattle.bindings.proofs.Chains.{is-more, chain-low, pushed as pushed-on, scope-stands}
 use Rattle.tokens.specs.Tells.{TellsLemmas}
 use Rattle.tokens.proofs.Growth.{lemmas-more}
@@ -35,8 +36,7 @@ use Rattle.deductions.specs.declared.Lemma.the-variants.{Of, None}
 use Rattle.deductions.specs.Machine.{M, inner, work, bound, moved, joining, joinedAt, LowLemma, MOut, refused, got, lacking, pushed, stopped}
 use Rattle.deductions.specs.Asked.{In, Ins, Based, Setting, Room, Ready, Callable, Arglist, Applicable}
 use Rattle.deductions.specs.Meets.{Meets, Deduced, Stepped, Lemmas, Fetched, MeetsArgs, Calling, Listed, Applying}
-use Rattle.deductions.proofs.Sorts.{sort, number}
-use Rattle.deductions.proofs.Bases.{based-front}
+use Rattle.deductions.proofs.Bases.{based-front, lemma-small}
 use Rattle.deductions.proofs.Growth.{used, setting-grew, setting-same, value-grew, bindings-grew, room-grew, less, grew-then, grew-on, grew-last, grew-none, after-lemmas, after-none, after-same, boundOn, grew-bound, joinedOn, grew-joined}
 use Rattle.deductions.proofs.Rows.{step-is, list-step, says-apply, operator-row, few-arguments, argument-rows, body-row}
 use Rattle.deductions.proofs.Got.{ran, ran-refused, Fetch, fetch, unfetched, Args, args, unlisted}
@@ -186,11 +186,6 @@ lemma-more : (fs gs : List Form) (l : Lemma) (ds : List Derived) → Lemmas fs l
 unfolding Lemmas
 lemma-more fs gs (Of p) ds (d, e, i) = (d, e, is-more fs gs p (d .conclusion) i)
 lemma-more fs gs None ds e = e
-
-lemma-low : (fs : List Form) (l : Lemma) (ds : List Derived) → length fs ≤ 16384 → Lemmas fs l ds → LowLemma l
-unfolding Lemmas
-lemma-low fs (Of p) ds h (d, e, i) = let k = i .low in omega arith
-lemma-low fs None ds h e = tt
 
 module _ (s : Shared) (d env b onto from left : ℕ) (m : M) where
   pub args-none : left ≡ 0 → Listed s d env b onto from left m (pushed onto b m)
@@ -364,26 +359,9 @@ module _ (s : Shared) (d env b onto from left : ℕ) (m : M) where
             let q = others (A .text) (A .formed) (A .bindings) (a .under) (A .basis) (A .setting) (A .row) (a .below) in
             let rs = A .room .base in let rm = A .room .small in
             let zp = Z .paid in let qp = q .paid in
-            (omega arith, lemma-low (A .formed ++ Z .more) l (Z .argument .lemma) (trees-few (inner m₁) (A .formed ++ Z .more) (setting₁ .world .legible .table)) (Z .lemma))
+            (omega arith, lemma-small (A .formed ++ Z .more) l (Z .argument .lemma) (trees-few (inner m₁) (A .formed ++ Z .more) (setting₁ .world .legible .table)) (Z .lemma))
 
 -- operators
-
-kindOf : Val → ℕ
-kindOf (form P) = 0
-kindOf (conV c) = 1
-kindOf (ruleV r) = 2
-kindOf (closure function self m b e) = 3
-kindOf (closure method self m b e) = 4
-
-same-kind : (rows : List (List ℕ)) (fs : List Form) (t : List ℕ) (n : ℕ) (X : Val) (v : Value) → Stands rows fs t n X v → kindOf X ≡ sort v
-unfolding Stands kindOf
-same-kind rows fs t n (form P) v x = ap sort (sym (x .1))
-same-kind rows fs t n (conV c) v x = ap sort (sym (x .0))
-same-kind rows fs t n (ruleV r) v x = ap sort (sym (x .0))
-same-kind rows fs t n (closure function false m b e) v x = ap sort (sym (x .1))
-same-kind rows fs t n (closure method false m b e) v x = ap sort (sym (x .1))
-same-kind rows fs t n (closure function true m b e) v x = ap sort (sym (x .2))
-same-kind rows fs t n (closure method true m b e) v x = ap sort (sym (x .2))
 
 wrong : (D : Deduce) (X : Val) (β : List Form) (vs : List Val) (k w : ℕ) → (kindOf X ≡ 2 → ⊥) → (kindOf X ≡ 4 → ⊥) → applied D X β vs k w ≡ stop wrong-kind k
 unfolding applied kindOf
@@ -393,7 +371,7 @@ wrong D (ruleV r) β vs k w h g = absurd (h refl)
 wrong D (closure function self m b e) β vs k w h g = refl
 wrong D (closure method self m b e) β vs k w h g = absurd (g refl)
 
-not-applied : (s : Shared) (d : ℕ) (v : Value) (y b n k : ℕ) (m : M) → (sort v ≡ 2 → ⊥) → (sort v ≡ 4 → ⊥) → Applying s d v y b n k m (refused wrong-kind k)
+not-applied : (s : Shared) (d : ℕ) (v : Value) (y b n k : ℕ) (m : M) → (tag v ≡ 2 → ⊥) → (tag v ≡ 4 → ⊥) → Applying s d v y b n k m (refused wrong-kind k)
 unfolding Meets
 not-applied s d v y b n k m h g = record {
   meets = λ x fs X vs β S st l.
@@ -403,13 +381,13 @@ not-applied s d v y b n k m h g = record {
 
 module _ (s : Shared) (d : ℕ) (v : Value) (y b n k : ℕ) (m : M) where
   pub prop-applied : (p : ℕ) → v ≡ Prop p → Applying s d v y b n k m (refused wrong-kind k)
-  prop-applied p e = not-applied s d v y b n k m (λ z. let t = ap sort e in omega arith) (λ z. let t = ap sort e in omega arith)
+  prop-applied p e = not-applied s d v y b n k m (λ z. let t = ap tag e in omega arith) (λ z. let t = ap tag e in omega arith)
 
   pub constructor-applied : (c : ℕ) → v ≡ Constructor c → Applying s d v y b n k m (refused wrong-kind k)
-  constructor-applied c e = not-applied s d v y b n k m (λ z. let t = ap sort e in omega arith) (λ z. let t = ap sort e in omega arith)
+  constructor-applied c e = not-applied s d v y b n k m (λ z. let t = ap tag e in omega arith) (λ z. let t = ap tag e in omega arith)
 
   pub function-applied : (f : Closure) → v ≡ Function f → Applying s d v y b n k m (refused wrong-kind k)
-  function-applied f e = not-applied s d v y b n k m (λ z. let t = ap sort e in omega arith) (λ z. let t = ap sort e in omega arith)
+  function-applied f e = not-applied s d v y b n k m (λ z. let t = ap tag e in omega arith) (λ z. let t = ap tag e in omega arith)
 
 -- a method's row, and what applying it runs
 record Runs (rows : List (List ℕ)) (a : ℕ) (X : Val) : Type 0 where
@@ -419,17 +397,17 @@ record Runs (rows : List (List ℕ)) (a : ℕ) (X : Val) : Type 0 where
 
 runs : (rows : List (List ℕ)) (fs : List Form) (t : List ℕ) (n : ℕ) (X : Val) (v : Value) (f : Closure) → v ≡ Method f → Stands rows fs t n X v → Runs rows (f .phrase) X
 unfolding Stands applied entered
-runs rows fs t n (form P) v f e x = absurd (let y = ap sort (sym e ∙ x .1) in omega arith)
-runs rows fs t n (conV c) v f e x = absurd (let y = ap sort (sym e ∙ x .0) in omega arith)
-runs rows fs t n (ruleV r) v f e x = absurd (let y = ap sort (sym e ∙ x .0) in omega arith)
-runs rows fs t n (closure function false m b i) v f e x = absurd (let y = ap sort (sym e ∙ x .1) in omega arith)
-runs rows fs t n (closure function true m b i) v f e x = absurd (let y = ap sort (sym e ∙ x .2) in omega arith)
+runs rows fs t n (form P) v f e x = absurd (let y = ap tag (sym e ∙ x .1) in omega arith)
+runs rows fs t n (conV c) v f e x = absurd (let y = ap tag (sym e ∙ x .0) in omega arith)
+runs rows fs t n (ruleV r) v f e x = absurd (let y = ap tag (sym e ∙ x .0) in omega arith)
+runs rows fs t n (closure function false m b i) v f e x = absurd (let y = ap tag (sym e ∙ x .1) in omega arith)
+runs rows fs t n (closure function true m b i) v f e x = absurd (let y = ap tag (sym e ∙ x .2) in omega arith)
 runs rows fs t n (closure method false m b i) v f e x =
-    let y : f .phrase ≡ x .0 .phrase = ap number (sym e ∙ x .1) in
+    let y : f .phrase ≡ x .0 .phrase = ap held (sym e ∙ x .1) in
     let w = x .2 in
     rw y (record { low = w .low; kind = w .kind; runs = λ D β vs k u. rw (w .parameters, w .body) })
 runs rows fs t n (closure method true m b i) v f e x =
-    let y : f .phrase ≡ x .0 .phrase = ap number (sym e ∙ x .2) in
+    let y : f .phrase ≡ x .0 .phrase = ap held (sym e ∙ x .2) in
     let w = x .3 in
     rw y (record { low = w .low; kind = w .kind; runs = λ D β vs k u. rw (w .parameters, w .body) })
 

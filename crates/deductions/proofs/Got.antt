@@ -6,7 +6,7 @@ use native.Mathlib.Nat.{le-refl}
 use lib.ListN.{length}
 use Rattle.language.specs.Form.{Form}
 use Rattle.language.specs.Values.{Val, Env, Out, out, stop, withAll}
-use Rattle.language.specs.Run.{evaluate, Derived, derived, Argument, argument, arguments, valuesOf, lemmas, joined}
+use Rattle.language.specs.Run.{evaluate, Derived, derived, Argument, argument, valuesOf, lemmas, joined}
 use Rattle.bindings.specs.declared.Value.{Value}
 use Rattle.bindings.specs.Stands.{Is, Stands, Chain}
 use Rattle.tokens.specs.Tells.{Tells, TellsLemmas}

@@ -15,6 +15,7 @@ use Rattle.bindings.specs.declared.Value.{Value}
 use Rattle.bindings.specs.declared.Value.the-variants.{Prop, Constructor, Rule, Function, Method}
 use Rattle.bindings.specs.declared.Binding.{Binding}
 use Rattle.bindings.specs.Numbers.{valueAt, nextAt, bindingAt}
+use Rattle.bindings.proofs.Tags.{tag}
 use Rattle.rules.specs.declared.Applied.{Applied}
 use Rattle.rules.specs.declared.Applied.the-variants.{Given, Misshapen, Missing}
 use Rattle.rules.specs.Applied.{Ruling}
@@ -26,7 +27,7 @@ use Rattle.deductions.specs.declared.Lemma.the-variants.{Of, None}
 use Rattle.deductions.specs.declared.Conclusion.the-variants.{Concluded, Refused}
 use Rattle.deductions.specs.declared.Taken.{Taken}
 use Rattle.deductions.specs.declared.Taken.the-variants.{Props, Other}
-use Rattle.deductions.proofs.Sorts.{sort, Otherwise}
+use Rattle.deductions.proofs.Sorts.{Otherwise}
 use Rattle.deductions.specs.Machine.{progress, joinedAt, joining, LowLemma, takenBy, takenAt, Long, inferredOf, Inferred, tollens, Refuted, comparedBy, comparedOf}
 
 -- a lemma
@@ -68,7 +69,7 @@ module _ (t : List ℕ) (e n x y z : ℕ) where
   lacks (Method c) f h = refl
 
   pub taken-other : (b : Binding) → (n ≡ 0 → ⊥) → b ≡ bindingAt t (e - 1) → Otherwise (b .value) → Other ≡ takenAt t e n x y z
-  taken-other b h g v = sym (taken-step n h ∙ lacks (valueAt t (e - 1)) _ (λ z. v (ap (λ (u : Binding). sort (u .value)) g ∙ z)))
+  taken-other b h g v = sym (taken-step n h ∙ lacks (valueAt t (e - 1)) _ (λ z. v (ap (λ (u : Binding). tag (u .value)) g ∙ z)))
 
   pub long-first : (n ≡ 0 → ⊥) → Long t e n → (0 < e) × (4 * (e - 1) + 4 ≤ length t) × Long t (nextAt t (e - 1)) (n - 1)
   unfolding Long

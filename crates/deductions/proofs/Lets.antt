@@ -26,7 +26,7 @@ use Rattle.deductions.specs.declared.Lemma.the-variants.{Of, None}
 use Rattle.deductions.specs.Machine.{M, inner, work, bound, moved, joining, LowLemma, MOut, concluded, refused, got, lacking}
 use Rattle.deductions.specs.Asked.{In, Ins, Setting, Ready, Steplist}
 use Rattle.deductions.specs.Meets.{Grew, Meets, Deduced, Stepped, Lemmas, MeetsOperand, Fetched, Stepping}
-use Rattle.deductions.proofs.Bases.{based-lemma}
+use Rattle.deductions.proofs.Bases.{based-lemma, lemma-small}
 use Rattle.deductions.proofs.Growth.{used, setting-grew, setting-same, room-grew, less, grew-on, grew-last, after-lemmas, after-same, boundOn, grew-bound, joinedOn, grew-joined, toldOn, grew-told, grew-none}
 use Rattle.deductions.proofs.Rows.{step-is, list-step, says-dlet, says-block, let-rows, block-count, step-rows, expression-row, argument-expression, argument-deduction}
 use Rattle.deductions.proofs.Got.{ran, ran-refused, proved, refusal, fetch, unfetched}
@@ -168,11 +168,6 @@ held G s d env b k A C T U m m₁ v l r row F =
       paid = P .paid;
       long = g .base-long;
     }
-
-lemma-small : (fs : List Form) (l : Lemma) (ds : List Derived) → length fs ≤ 16384 → Lemmas fs l ds → LowLemma l
-unfolding Lemmas
-lemma-small fs (Of p) ds h (d, e, i) = let k = i .low in omega arith
-lemma-small fs None ds h e = tt
 
 pub join-fits : (G : Text → Type 0) (s : Shared) (m m₁ : M) (env b A C T U : ℕ) (v : Value) (l : Lemma) → b + work m ≤ length (m .base) → Held G s m m₁ env b A C T U v l → (b + joining l ≤ 16384) × LowLemma l
 join-fits G s m m₁ env b A C T U v l h H =

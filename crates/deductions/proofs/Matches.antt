@@ -1,31 +1,28 @@
 -- Dmatch: one law for each return of the functions that run the first phrase and the clause that fits.
 use mathlib.Core.Path.{_≡_, refl, sym, ap, subst, _∙_}
 use mathlib.Core.List.{List, [], _++_, map, append-nil}
-use mathlib.Core.Option.{Option, some, none}
-use Prim.Native.Nat.{ℕ, zero, suc, _+_, _*_, _≤_, _<_}
+use Prim.Native.Nat.{ℕ, _+_, _*_, _≤_, _<_}
 use native.Mathlib.Omega.{arith}
 use native.Mathlib.Nat.{le-refl}
-use lib.ListN.{length, getD, take, drop}
-use lib.Seq.{getD-drop, drop-drop, take-take, take-at, length-take-le}
+use lib.ListN.{length, take, drop}
+use lib.Seq.{take-take, take-at, length-take-le}
 use Rattle.language.specs.Refusals.{wrong-kind, no-clause}
 use Rattle.language.specs.Form.{Form}
-use Rattle.language.specs.Syntax.{Pattern, any}
 use Rattle.language.specs.Values.{Env, Out, next, asForm, withForms}
-use Rattle.language.specs.Patterns.{fits, Choice as Chosen-clause, chosen, unfit, orElse, choose, onChoice}
+use Rattle.language.specs.Patterns.{Choice as Chosen-clause, chosen, unfit, choose, onChoice}
 use Rattle.language.specs.Run.{evaluate, Derived, Argument, argument, deduced, deduceStep, deduce}
 use Rattle.forms.specs.Table.{tree, Table}
 use Rattle.records.specs.Rows.{clausesOf}
-use Rattle.reader.specs.Stands.{All}
-use Rattle.reader.proofs.Alls.{all-map}
+use Rattle.theorems.proofs.Lists.{all-map}
 use Rattle.bindings.specs.declared.Value.{Value}
 use Rattle.bindings.specs.declared.Value.the-variants.{Prop}
 use Rattle.bindings.specs.Stands.{Chain}
 use Rattle.bindings.proofs.Chains.{chain-low}
 use Rattle.patterns.specs.declared.Parts.{Parts}
 use Rattle.patterns.specs.declared.Choice.the-variants.{Chosen, Unfit}
-use Rattle.patterns.specs.Parts.{numbers, none-bound, extend}
-use Rattle.patterns.specs.Fitting.{Named, Offered, Picked, Chosen-so}
-use Rattle.patterns.proofs.Extending.{extend-count, extend-numbers}
+use Rattle.patterns.specs.Parts.{numbers}
+use Rattle.patterns.specs.Fitting.{Offered, Picked, Chosen-so}
+use Rattle.patterns.proofs.Clauses.{OnBody, body-of, Binds, binds-of}
 use Rattle.expressions.specs.Machine.{Shared, counters, kind, one, two, chained, outermost}
 use Rattle.expressions.specs.Asked.{Text, World, Bindable}
 use Rattle.expressions.proofs.Operands.{row-inside}
@@ -40,42 +37,9 @@ use Rattle.deductions.proofs.Growth.{used, setting-grew, room-grew, les
 use Rattle.deductions.proofs.Rows.{step-is, says-dmatch, subject-row, few-clauses, clause-rows}
 use Rattle.deductions.proofs.Got.{Fetch, fetch, unfetched}
 
--- the body chosen is a clause's
-
-OnBody : (ℕ → Type 0) → Chosen-clause → Type 0
-OnBody G (chosen b ps) = G b
-OnBody G unfit = Unit {0}
-
-body-of : (G : ℕ → Type 0) (qs : List Pattern) (P : Form) (n from : ℕ) (ph : List ℕ) → ((i : ℕ) → i < n → G (getD ph (from + 2 * i + 1) 0)) → OnBody G (choose (clausesOf qs n (drop from ph)) P)
-unfolding OnBody choose clausesOf orElse
-body-of G qs P zero from ph g = tt
-body-of G qs P (suc n) from ph g =
-    go (fits (getD qs (getD (drop from ph) 0 0) any) P) (rw (drop-drop 2 from ph) (body-of G qs P n (from + 2) ph (λ i h. let z : from + 2 + 2 * i + 1 ≡ from + 2 * (i + 1) + 1 = omega arith in rw z (g (i + 1) (omega arith)))))
-  where
-    first : G (getD (drop from ph) 1 0)
-    first = let z : from + 2 * 0 + 1 ≡ from + 1 = omega arith in rw (getD-drop from ph 1 0, ← z) (g 0 (omega arith))
-
-    go : (o : Option (List Form)) → OnBody G (choose (clausesOf qs n (drop 2 (drop from ph))) P) → OnBody G (orElse o (getD (drop from ph) 1 0) (choose (clausesOf qs n (drop 2 (drop from ph))) P))
-    go none rest = rest
-    go (some ps) rest = first
-
 -- a body is a deduction of the text
 abbrev Body : Text → Shared → ℕ → Type 0
 Body x s j = In j x × (16 ≤ kind (s .phrases) j)
-
--- what was bound, as a list of numbers
-record Binds (fs : List Form) (parts : Parts) (ps : List Form) : Type 0 where
-  pub few : parts .count ≤ 4
-  pub count : length (numbers parts) ≡ parts .count
-  pub low : All (λ q. q < length fs) (numbers parts)
-  pub trees : map (tree fs) (numbers parts) ≡ ps
-
-binds-of : (fs ps : List Form) (parts : Parts) (ns : List ℕ) → parts ≡ extend none-bound ns → Named fs ns ps → length ns ≤ 4 → Binds fs parts ps
-binds-of fs ps parts ns e N l =
-    let c = extend-count none-bound ns in
-    let u : numbers parts ≡ ns = ap (λ (q : Parts). numbers q) e ∙ extend-numbers none-bound ns (omega arith) in
-    let t : parts .count ≡ 0 + length ns = ap (λ (q : Parts). q .count) e ∙ c in
-    record { few = omega (arith, t, l); count = ap length u ∙ omega (arith, t); low = rw u (N .low); trees = rw u (N .trees) }
 
 module _ (s : Shared) (env b k p : ℕ) (m : M) (n : ℕ) (i : n ≡ two (s .phrases) k) (is : kind (s .phrases) k ≡ 22) where
   -- the clauses may be tried

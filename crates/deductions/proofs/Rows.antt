@@ -1,6 +1,6 @@
 -- What the rows of deductions say, kind by kind: which deduction a row is, and what its operands are, where the code reads its numbers.
 use Prim.Native.Nat.{ℕ, zero, suc, _+_, _*_, _-_, _≤_, _<_}
-use mathlib.Core.Path.{_≡_, refl, sym, ap, _∙_}
+use mathlib.Core.Path.{_≡_, refl, _∙_}
 use mathlib.Core.List.{List, [], _∷_}
 use native.Mathlib.Omega.{arith}
 use native.Mathlib.Numerals.{sub-one}
@@ -13,10 +13,10 @@ use Rattle.language.specs.Run.{Evaluate, Deduce, onDedu, deduced, deduceStep, p
 use Rattle.records.specs.Rows.{cell, phraseCells, phraseOf, clausesOf, blockBy}
 use Rattle.reader.specs.Stands.{Dedu, PhraseRow}
 use Rattle.reader.specs.Stands.{prop-row, var-row, con-row, rule-row, function-row, method-row, call-row, let-row, fix-row, match-row, apply-row, assume-row, suppose-row, dlet-row, by-row, block-row, dmatch-row}
-use Rattle.reader.proofs.Laying.{phrases-wide}
+use Rattle.patterns.proofs.Clauses.{clauses-by}
 use Rattle.expressions.specs.Machine.{Shared, M as ME, kind, one, two, listed}
 use Rattle.expressions.specs.Asked.{Text, Row, World}
-use Rattle.expressions.proofs.Operands.{Operands, cell-at, kind-at, operands-at, earlier}
+use Rattle.expressions.proofs.Operands.{Operands, listed-by, cell-at, kind-at, kind-is, wide, rest-at, operands-at, earlier}
 use Rattle.deductions.specs.Asked.{In, Ins}
 
 -- the step of a phrase that is the deduction y
@@ -36,55 +36,33 @@ module _ (x : Text) (fs : List Form) (s : Shared) (m : ME) (W : World x fs s m) 
   at : (j : ℕ) → j < 12 → getD (s .phrases) (12 * k + j) 0 ≡ cell (x .rows) k j
   at j h = cell-at x fs s m W k low j h
 
-  kind-is : (c : ℕ) → kind (s .phrases) k ≡ c → cell (x .rows) k 0 ≡ c
-  kind-is c e = sym (kind-at x fs s m W k low) ∙ e
-
   says : phraseAt (x .phrases) k ≡ phraseOf fs (x .patterns) (x .rows) row
   says = W .says .says k low
 
   pub says-assume : kind (s .phrases) k ≡ 17 → phraseAt (x .phrases) k ≡ dedu (assume (one (s .phrases) k) (two (s .phrases) k))
   unfolding phraseOf
-  says-assume e = says ∙ rw (kind-is 17 e, at 1 (omega arith), at 2 (omega arith))
+  says-assume e = says ∙ rw (kind-is x fs s m W k low 17 e, at 1 (omega arith), at 2 (omega arith))
 
   pub says-suppose : kind (s .phrases) k ≡ 18 → phraseAt (x .phrases) k ≡ dedu (suppose (one (s .phrases) k) (two (s .phrases) k))
   unfolding phraseOf
-  says-suppose e = says ∙ rw (kind-is 18 e, at 1 (omega arith), at 2 (omega arith))
+  says-suppose e = says ∙ rw (kind-is x fs s m W k low 18 e, at 1 (omega arith), at 2 (omega arith))
 
   pub says-dlet : kind (s .phrases) k ≡ 19 → phraseAt (x .phrases) k ≡ dedu (dlet (one (s .phrases) k) (two (s .phrases) k))
   unfolding phraseOf
-  says-dlet e = says ∙ rw (kind-is 19 e, at 1 (omega arith), at 2 (omega arith))
+  says-dlet e = says ∙ rw (kind-is x fs s m W k low 19 e, at 1 (omega arith), at 2 (omega arith))
 
   pub says-by : kind (s .phrases) k ≡ 20 → phraseAt (x .phrases) k ≡ dedu (by (one (s .phrases) k) (two (s .phrases) k))
   unfolding phraseOf
-  says-by e = says ∙ rw (kind-is 20 e, at 1 (omega arith), at 2 (omega arith))
-
-  wide : length row ≡ 12
-  wide = phrases-wide (W .says) k low
-
-  listed-by : (n i : ℕ) (ys : List ℕ) → n ≤ length ys → ((j : ℕ) → j < n → getD (s .phrases) (i + j) 0 ≡ getD ys j 0) → listed (s .phrases) i n ≡ take n ys
-  unfolding listed
-  listed-by zero i ys h e = refl
-  listed-by (suc n) i [] h e = absurd (omega arith)
-  listed-by (suc n) i (y ∷ ys) h e =
-      let z : i + 0 ≡ i = omega arith in
-      let e₀ : getD (s .phrases) i 0 ≡ y = rw z at (e 0 (omega arith)) in
-      let f : (j : ℕ) → j < n → getD (s .phrases) (i + 1 + j) 0 ≡ getD ys j 0 = λ j l. let q : i + 1 + j ≡ i + suc j = omega arith in rw q (e (suc j) (omega arith)) in
-      rw (e₀, listed-by n (i + 1) ys (omega arith) f)
-
-  -- from the number after the first i on
-  rest-at : (i j : ℕ) → i + j < 12 → getD (s .phrases) (12 * k + i + j) 0 ≡ getD (drop i row) j 0
-  rest-at i j h =
-      let z : 12 * k + i + j ≡ 12 * k + (i + j) = omega arith in
-      ap (λ (q : ℕ). getD (s .phrases) q 0) z ∙ at (i + j) h ∙ sym (getD-drop i row j 0)
+  says-by e = says ∙ rw (kind-is x fs s m W k low 20 e, at 1 (omega arith), at 2 (omega arith))
 
   pub says-apply : kind (s .phrases) k ≡ 16 → phraseAt (x .phrases) k ≡ dedu (apply (one (s .phrases) k) (listed (s .phrases) (12 * k + 3) (two (s .phrases) k)))
   unfolding phraseOf Operands
   says-apply e =
       let n : two (s .phrases) k ≡ cell (x .rows) k 2 = at 2 (omega arith) in
       let few = operands-at x fs s m W k low 16 e .1 in
-      let long : length (drop 3 row) ≡ 9 = length-drop 3 row ∙ rw wide in
-      let l = listed-by (cell (x .rows) k 2) (12 * k + 3) (drop 3 row) (omega (arith, few, long)) (λ j h. rest-at 3 j (omega (arith, few, h))) in
-      says ∙ rw (kind-is 16 e, at 1 (omega arith), n, l)
+      let long : length (drop 3 row) ≡ 9 = length-drop 3 row ∙ rw (wide x fs s m W k low) in
+      let l = listed-by (s .phrases) (cell (x .rows) k 2) (12 * k + 3) (drop 3 row) (omega (arith, few, long)) (λ j h. rest-at x fs s m W k low 3 j (omega (arith, few, h))) in
+      says ∙ rw (kind-is x fs s m W k low 16 e, at 1 (omega arith), n, l)
 
   pub says-block : kind (s .phrases) k ≡ 21 → phraseAt (x .phrases) k ≡ dedu (block (getD (s .phrases) (12 * k + 2) 0) (listed (s .phrases) (12 * k + 2 + 1) (one (s .phrases) k - 1)))
   unfolding phraseOf Operands blockBy
@@ -92,25 +70,18 @@ module _ (x : Text) (fs : List Form) (s : Shared) (m : ME) (W : World x fs s m) 
       let n : one (s .phrases) k ≡ cell (x .rows) k 1 = at 1 (omega arith) in
       let o = operands-at x fs s m W k low 21 e in
       let some = o .0 in let few = o .1 in
-      let long : length (drop 2 row) ≡ 10 = length-drop 2 row ∙ rw wide in
-      let l = listed-by (cell (x .rows) k 1) (12 * k + 2) (drop 2 row) (omega (arith, few, long)) (λ j h. rest-at 2 j (omega (arith, few, h))) in
+      let long : length (drop 2 row) ≡ 10 = length-drop 2 row ∙ rw (wide x fs s m W k low) in
+      let l = listed-by (s .phrases) (cell (x .rows) k 1) (12 * k + 2) (drop 2 row) (omega (arith, few, long)) (λ j h. rest-at x fs s m W k low 2 j (omega (arith, few, h))) in
       let f = list-step (s .phrases) (12 * k + 2) (cell (x .rows) k 1) (λ z. omega (arith, z, some)) in
-      says ∙ rw (kind-is 21 e, n, ← l, f)
-
-  clauses-by : (qs : List Pattern) (n : ℕ) (xs ys : List ℕ) → ((j : ℕ) → j < 2 * n → getD xs j 0 ≡ getD ys j 0) → clausesOf qs n xs ≡ clausesOf qs n ys
-  unfolding clausesOf
-  clauses-by qs zero xs ys e = refl
-  clauses-by qs (suc n) xs ys e =
-      let f : (j : ℕ) → j < 2 * n → getD (drop 2 xs) j 0 ≡ getD (drop 2 ys) j 0 = λ j h. getD-drop 2 xs j 0 ∙ e (2 + j) (omega arith) ∙ sym (getD-drop 2 ys j 0) in
-      rw (e 0 (omega arith), e 1 (omega arith), clauses-by qs n (drop 2 xs) (drop 2 ys) f)
+      says ∙ rw (kind-is x fs s m W k low 21 e, n, ← l, f)
 
   pub says-dmatch : kind (s .phrases) k ≡ 22 → phraseAt (x .phrases) k ≡ dedu (dmatch (one (s .phrases) k) (clausesOf (x .patterns) (two (s .phrases) k) (drop (12 * k + 3) (s .phrases))))
   unfolding phraseOf Operands
   says-dmatch e =
       let n : two (s .phrases) k ≡ cell (x .rows) k 2 = at 2 (omega arith) in
       let few = operands-at x fs s m W k low 22 e .2 in
-      let l = clauses-by (x .patterns) (cell (x .rows) k 2) (drop (12 * k + 3) (s .phrases)) (drop 3 row) (λ j h. getD-drop (12 * k + 3) (s .phrases) j 0 ∙ rest-at 3 j (omega (arith, few, h))) in
-      says ∙ rw (kind-is 22 e, at 1 (omega arith), n, l)
+      let l = clauses-by (x .patterns) (cell (x .rows) k 2) (drop (12 * k + 3) (s .phrases)) (drop 3 row) (λ j h. getD-drop (12 * k + 3) (s .phrases) j 0 ∙ rest-at x fs s m W k low 3 j (omega (arith, few, h))) in
+      says ∙ rw (kind-is x fs s m W k low 22 e, at 1 (omega arith), n, l)
 
   -- an earlier deduction
   deduction : (j : ℕ) → Dedu (x .rows) k j → In j x × (16 ≤ kind (s .phrases) j)

@@ -21,6 +21,7 @@ use Rattle.bindings.specs.declared.Value.{Value}
 use Rattle.bindings.specs.declared.Value.the-variants.{Prop, Rule}
 use Rattle.bindings.specs.Numbers.{valueAt, nextAt}
 use Rattle.bindings.specs.Stands.{Is, Stands, Chain}
+use Rattle.bindings.proofs.Tags.{tag, held}
 use Rattle.tokens.specs.Tells.{Names, Tells}
 use Rattle.tokens.proofs.Growth.{names-more}
 use Rattle.rules.specs.declared.Applied.{Applied}
@@ -36,30 +37,10 @@ use Rattle.deductions.specs.Machine.{M, inner, work, bound, refused, out
 use Rattle.rules.specs.Base.{Alike}
 use Rattle.deductions.specs.Asked.{Setting, Applicable}
 use Rattle.deductions.specs.Meets.{Meets, Applying}
-use Rattle.deductions.proofs.Sorts.{sort, number}
 use Rattle.deductions.proofs.Tokens.{take-run}
+use Rattle.rules.proofs.Arguments.{three, ruled-at}
 use Rattle.rules.proofs.Sets.{members-alike}
 use Rattle.deductions.proofs.Growth.{used}
-
--- no rule takes more than three arguments
-AtMost : ℕ → List ℕ → Type 0
-AtMost m [] = Unit {0}
-AtMost m (x ∷ xs) = (x ≤ m) × AtMost m xs
-
-at-most : (m : ℕ) (xs : List ℕ) → AtMost m xs → (r : ℕ) → getD xs r 0 ≤ m
-unfolding AtMost
-at-most m [] h r = omega arith
-at-most m (x ∷ xs) h zero = h .0
-at-most m (x ∷ xs) h (suc r) = at-most m xs (h .1) r
-
-pub three : (r : ℕ) → getD arity r 0 ≤ 3
-unfolding AtMost
-three =
-    let one : 1 ≤ 3 = omega arith in
-    let two : 2 ≤ 3 = omega arith in
-    let none : 0 ≤ 3 = omega arith in
-    let all : 3 ≤ 3 = omega arith in
-    at-most 3 arity (one, (two, (two, (one, (two, (one, (one, (two, (two, (all, (two, (one, (one, (none, (two, (none, tt))))))))))))))))
 
 -- a chain of so many values
 
@@ -114,14 +95,6 @@ Takes fs vs (Props x y z) =
     (ps : List Form) × ((k : ℕ) (f : List Form → Out Derived) → asForms vs k f ≡ f ps) × Names fs (take (length vs) (x ∷ (y ∷ (z ∷ [])))) ps
     × ((x < length fs) × (y < length fs) × (z < length fs)) × ((r : ℕ) → ruled r (tree fs x ∷ (tree fs y ∷ (tree fs z ∷ []))) ≡ ruled r ps)
 Takes fs vs Other = (k : ℕ) (f : List Form → Out Derived) → asForms vs k f ≡ stop wrong-kind k
-
--- a rule looks at its first three arguments
-ruled-at : (r : ℕ) (X Y Z : Form) (xs : List Form) → X ≡ getD xs 0 verum → Y ≡ getD xs 1 verum → Z ≡ getD xs 2 verum → ruled r (X ∷ (Y ∷ (Z ∷ []))) ≡ ruled r xs
-unfolding ruled
-ruled-at r X Y Z xs x y z =
-    ap (λ (u : Form). getD (table u Y Z) r misshapen) x
-    ∙ ap (λ (u : Form). getD (table (getD xs 0 verum) u Z) r misshapen) y
-    ∙ ap (λ (u : Form). getD (table (getD xs 0 verum) (getD xs 1 verum) u) r misshapen) z
 
 module _ (fs : List Form) (truth : tree fs 0 ≡ verum) (some : 0 < length fs) where
   takes-none : Takes fs [] (Props 0 0 0)
@@ -184,13 +157,13 @@ module _ (fs : List Form) (truth : tree fs 0 ≡ verum) (some : 0 < length fs) w
 
 rule-is : (rows : List (List ℕ)) (fs : List Form) (t : List ℕ) (n : ℕ) (X : Val) (r : ℕ) → Stands rows fs t n X (Rule r) → (X ≡ ruleV r) × (r ≤ 15)
 unfolding Stands
-rule-is rows fs t n (form P) r x = absurd (let z = ap sort (x .1) in omega arith)
-rule-is rows fs t n (conV c) r x = absurd (let z = ap sort (x .0) in omega arith)
-rule-is rows fs t n (ruleV q) r x = let z : r ≡ q = ap number (x .0) in let l = x .1 in (ap ruleV (sym z), omega arith)
-rule-is rows fs t n (closure function false m b i) r x = absurd (let z = ap sort (x .1) in omega arith)
-rule-is rows fs t n (closure method false m b i) r x = absurd (let z = ap sort (x .1) in omega arith)
-rule-is rows fs t n (closure function true m b i) r x = absurd (let z = ap sort (x .2) in omega arith)
-rule-is rows fs t n (closure method true m b i) r x = absurd (let z = ap sort (x .2) in omega arith)
+rule-is rows fs t n (form P) r x = absurd (let z = ap tag (x .1) in omega arith)
+rule-is rows fs t n (conV c) r x = absurd (let z = ap tag (x .0) in omega arith)
+rule-is rows fs t n (ruleV q) r x = let z : r ≡ q = ap held (x .0) in let l = x .1 in (ap ruleV (sym z), omega arith)
+rule-is rows fs t n (closure function false m b i) r x = absurd (let z = ap tag (x .1) in omega arith)
+rule-is rows fs t n (closure method false m b i) r x = absurd (let z = ap tag (x .1) in omega arith)
+rule-is rows fs t n (closure function true m b i) r x = absurd (let z = ap tag (x .2) in omega arith)
+rule-is rows fs t n (closure method true m b i) r x = absurd (let z = ap tag (x .2) in omega arith)
 
 module _ (s : Shared) (m : M) (y b n r : ℕ) where
   -- what the chain says of the rule's arguments, in any setting

@@ -1,7 +1,7 @@
 -- Two results that the contract allows stand for one result of the definitions.
 use Prim.Native.Nat.{ℕ}
 use native.Mathlib.Omega.{arith}
-use mathlib.Core.Path.{_≡_, sym, ap, _∙_}
+use mathlib.Core.Path.{sym, ap, _∙_}
 use mathlib.Core.List.{List, _++_}
 use lib.ListN.{take}
 use Rattle.language.specs.Form.{Form}

@@ -5,13 +5,11 @@ use mathlib.Core.Path.{_≡_, refl, sym, ap, _∙_}
 use mathlib.Core.List.{List, [], _∷_}
 use lib.ListN.{length, drop, getD}
 use Rattle.records.specs.declared.Ended.{Ended}
-use Rattle.records.specs.Reading.{Kept}
 use Rattle.records.proofs.Once.{ends-once}
 use Rattle.reader.specs.declared.parts.Listed.{Listed}
 use Rattle.numbers.proofs.Answers.{gotten-once}
 use Rattle.wording.specs.Page.{Page}
 use Rattle.wording.specs.Text.{after}
-use Rattle.checker.specs.Verdicts.{scratch}
 use Rattle.checker.proofs.Demanded as checker
 use Rattle.doors.specs.Demands.{Evaluate-once}
 use Rattle.doors.proofs.Demanded.{evaluate-once}

@@ -1,27 +1,23 @@
 -- The three demands of the doors, from their contracts and the theorems over the definitions.
 use Prim.Native.Nat.{ℕ, _≤_}
 use native.Mathlib.Omega.{arith}
-use mathlib.Core.Path.{_≡_, refl, sym, ap, ap₂, subst, _∙_}
+use mathlib.Core.Path.{_≡_, refl, sym, ap, ap₂, _∙_}
 use mathlib.Core.Bool.{Bool, true, false, _&&_}
-use mathlib.Core.List.{List, [], _∷_, _++_}
-use lib.ListN.{length, getD, take, drop}
+use mathlib.Core.List.{List, [], _∷_}
+use lib.ListN.{length, getD, take}
 use lib.Dec.{leb}
 use Rattle.language.specs.Refusals.{budget-over, scratch-short}
 use Rattle.language.specs.Form.{verum, holds}
-use Rattle.language.specs.Syntax.{Sheet}
-use Rattle.language.specs.Numbers.{got, pick}
-use Rattle.language.specs.Read.{sheet}
-use Rattle.language.specs.Plain.{inferences}
-use Rattle.language.specs.Run.{Derived}
+use Rattle.language.specs.Numbers.{pick}
 use Rattle.language.specs.Certificate.{certificate, listing, indexOf}
 use Rattle.language.specs.Answer.{Answer, accepted, refused, answer}
-use Rattle.language.specs.Check.{verdict, stands}
-use Rattle.language.specs.Doors.{evaluatedNumbers, checkedNumbers, verdictNumbers, evaluationLengths, enough, wiped, fronted, Evaluation, finished, evaluation}
+use Rattle.language.specs.Check.{verdict}
+use Rattle.language.specs.Doors.{evaluatedNumbers, evaluationLengths, enough, wiped, fronted, Evaluation, finished, evaluation}
 use Rattle.language.specs.declared.Evaluated.{Evaluated}
 use Rattle.language.specs.declared.Evaluated.the-variants.{Accepted, Refused}
-use Rattle.language.specs.declared.Checked.{Checked}
+use Rattle.theorems.proofs.Lists.{clash}
 use Rattle.theorems.specs.Demands.{Accepts-exactly, Checks-exactly}
-use Rattle.theorems.specs.Growth.{Parts, Grown, Answers-stand}
+use Rattle.theorems.specs.Growth.{Answers-stand}
 use Rattle.theorems.proofs.Accepting.{accepts-exactly}
 use Rattle.theorems.proofs.Checking.{checks-exactly}
 use Rattle.theorems.proofs.Soundness.{proves-sound}
@@ -30,15 +26,13 @@ use Rattle.theorems.proofs.Standing.{answers-stand}
 use Rattle.words.proofs.Fronts.{take-front}
 use Rattle.evaluator.specs.Door.{Evaluates}
 use Rattle.evaluator.proofs.Scratch.{door-finished}
-use Rattle.checker.specs.Verdicts.{scratch, Checks}
+use Rattle.checker.specs.Verdicts.{scratch}
 use Rattle.checker.specs.Demand.{Check-exactly}
 use Rattle.checker.proofs.Demanded.{check-exactly}
 use Rattle.doors.specs.Demands.{Evaluate-once, Evaluate-refuses, Evaluate-scratch, Evaluate-exactly, Evaluate-stands, Certificate-stands}
 
-clash : _≡_ {A = ℕ} 0 1 → ⊥
-clash e = omega arith
-
-accepted-same : {a a′ b b′ c c′ : ℕ} → a ≡ a′ → b ≡ b′ → c ≡ c′ → Accepted a (record { 0 = b }) (record { 0 = c }) ≡ Accepted a′ (record { 0 = b′ }) (record { 0 = c′ })
+-- answers with the same numbers
+pub accepted-same : {a a′ b b′ c c′ : ℕ} → a ≡ a′ → b ≡ b′ → c ≡ c′ → Accepted a (record { 0 = b }) (record { 0 = c }) ≡ Accepted a′ (record { 0 = b′ }) (record { 0 = c′ })
 accepted-same x y z = rw (x, y, z)
 
 -- an answer is known by its numbers

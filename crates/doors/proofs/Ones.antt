@@ -8,9 +8,7 @@ use lib.ListN.{getD, replicate, length-replicate}
 use lib.Dec.{leb}
 use borrow.Author.Tests.{le-leb}
 use Rattle.language.specs.Doors.{enough, wiped}
-
-pub clash : _≡_ {A = ℕ} 0 1 → ⊥
-clash e = omega arith
+use Rattle.theorems.proofs.Lists.{clash}
 
 -- buffers of given lengths, all ones
 unfoldable pub ones : List ℕ → List (List ℕ)

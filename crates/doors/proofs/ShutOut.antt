@@ -4,13 +4,11 @@ use native.Mathlib.Omega.{arith}
 use mathlib.Core.Path.{_≡_, refl, sym, ap, _∙_}
 use mathlib.Core.List.{List, [], _∷_}
 use lib.ListN.{take, replicate}
-use Rattle.language.specs.Form.{conj, atom, bin}
 use Rattle.language.specs.Syntax.{Sheet}
-use Rattle.language.specs.Numbers.{Got, got, no}
+use Rattle.language.specs.Numbers.{got}
 use Rattle.language.specs.Read.{sheet}
-use Rattle.language.specs.Plain.{infer}
 use Rattle.language.specs.Values.{empty}
-use Rattle.language.specs.Run.{Derived, derived, deduce}
+use Rattle.language.specs.Run.{Derived, deduce}
 use Rattle.language.specs.Derives.{Derives}
 use Rattle.language.specs.Certificate.{certificate}
 use Rattle.language.specs.Doors.{evaluatedNumbers, evaluationLengths, wiped, fronted, Evaluation, finished}
@@ -20,10 +18,13 @@ use Rattle.language.specs.declared.Work.{Work}
 use Rattle.language.specs.declared.Inferences.{Inferences}
 use Rattle.language.specs.declared.Evaluated.{Evaluated}
 use Rattle.language.specs.declared.Evaluated.the-variants.{Accepted, Refused}
+use Rattle.theorems.proofs.Lists.{clash}
 use Rattle.theorems.specs.Demands.{Deduces-exactly}
+use Rattle.theorems.proofs.ShutOut.{sheet-of, S₁, c1-reads, first, first-derived}
 use Rattle.theorems.proofs.Exact.{interpreted, determined}
 use Rattle.evaluator.proofs.Scratch.{door-finished}
-use Rattle.doors.proofs.Ones.{clash, ones, ones-enough, wiped-not}
+use Rattle.doors.proofs.Demanded.{accepted-same}
+use Rattle.doors.proofs.Ones.{ones, ones-enough, wiped-not}
 use Rattle.doors.specs.Wrong.{Evaluator, Has-evaluate, Refuses-everything, Emits-true-intro, Writes-nothing, Runs-first-step, Spends-the-budget, Infers-its-work, Leaves-evaluation-scratch, Believes-announced, Writes-what-fits}
 
 -- an answer by its numbers
@@ -33,10 +34,7 @@ accepted-by (Accepted m v j) n w i e =
     let x : m ≡ n = cc in
     let y : v .0 ≡ w = cc in
     let z : j .0 ≡ i = cc in
-    alike x y z
-  where
-    alike : {a a′ b b′ c c′ : ℕ} → a ≡ a′ → b ≡ b′ → c ≡ c′ → Accepted a (record { 0 = b }) (record { 0 = c }) ≡ Accepted a′ (record { 0 = b′ }) (record { 0 = c′ })
-    alike x y z = rw (x, y, z)
+    accepted-same x y z
 accepted-by (Refused m p) n w i e = absurd (clash cc)
 
 refused-by : (r : Evaluated) (n p m : ℕ) (w : Work) (i : Inferences) → evaluatedNumbers r ≡ n ∷ (p ∷ []) → r ≡ Accepted m w i → ⊥
@@ -44,33 +42,12 @@ unfolding evaluatedNumbers
 refused-by r n p m w i e f = let z = ap evaluatedNumbers f in clash cc
 
 -- what C1's sheet and C8's say, and what a first step of each derives
-abbrev sheet-of : Got Sheet → Sheet
-sheet-of (got S end) = S
-sheet-of (no n p) = record { props = []; patterns = []; phrases = []; base = []; root = 0 }
-
-abbrev S₁ : Sheet
-S₁ = sheet-of (sheet c1)
-
 abbrev S₈ : Sheet
 S₈ = sheet-of (sheet c8)
-
-c1-reads : sheet c1 ≡ got S₁ 43
-unfolding sheet
-c1-reads = refl
 
 c8-reads : sheet c8 ≡ got S₈ 26
 unfolding sheet
 c8-reads = refl
-
-abbrev first : Derived
-first = derived (atom 0) (infer 5 (bin conj (atom 0) (atom 1) ∷ []))
-
-c1-first : Derives (S₁ .phrases) 63 empty (S₁ .base) 6 first 3
-unfolding sheet deduce Deduces-exactly
-c1-first =
-    let (u, x, e) = interpreted (S₁ .phrases) 63 empty (S₁ .base) 6 3 0 first .0 refl in
-    let z : u ≡ 3 = omega arith in
-    rw z at x
 
 c8-first : Derives (S₈ .phrases) 63 empty (S₈ .base) 2 first 3
 unfolding sheet deduce Deduces-exactly
@@ -162,7 +139,7 @@ module _ (E : Evaluator) (has : Has-evaluate E) where
   unfolding Runs-first-step sheet certificate fronted
   first-step-shut-out h =
       let (d, u, x, e) = h c1 S₁ 43 12 6 (7 ∷ (8 ∷ [])) 24 (record { 0 = 11 }) (record { 0 = 3 }) room (ones evaluationLengths) c1-reads refl c1-accepted in
-      let is : d ≡ first = determined x c1-first .0 in
+      let is : d ≡ first = determined x first-derived .0 in
       not-first (sym c1-output ∙ e ∙ ap (λ (y : Derived). fronted (certificate y) room) is)
 
   c8-numbers : evaluatedNumbers (E c8 1024 room (ones evaluationLengths) .answer) ≡ 15 ∷ (4 ∷ [])

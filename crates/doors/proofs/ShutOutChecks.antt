@@ -5,17 +5,18 @@ use mathlib.Core.Path.{_≡_, refl, sym, ap, _∙_}
 use mathlib.Core.Bool.{true}
 use mathlib.Core.List.{List, [], _∷_, _++_}
 use lib.ListN.{getD, replicate}
-use Rattle.language.specs.Syntax.{Sheet}
-use Rattle.language.specs.Numbers.{Got, got, no, pick}
+use Rattle.language.specs.Numbers.{got, pick}
 use Rattle.language.specs.Read.{sheet}
 use Rattle.language.specs.Check.{Verdict, stands, falls, verdict}
 use Rattle.language.specs.Doors.{checkedNumbers, verdictNumbers, checkLengths, enough, wiped, Checking, checking}
-use Rattle.language.specs.Cases.{_∶_, c1, c1-certificate, c5}
+use Rattle.language.specs.Cases.{_∶_, c1, c5}
 use Rattle.language.specs.declared.Inferences.{Inferences}
 use Rattle.language.specs.declared.Checked.{Checked}
 use Rattle.language.specs.declared.Checked.the-variants.{Stands, Falls}
+use Rattle.theorems.proofs.Lists.{clash}
+use Rattle.theorems.proofs.ShutOut.{sheet-of, c1-reads}
 use Rattle.checker.specs.Verdicts.{scratch}
-use Rattle.doors.proofs.Ones.{clash, ones, ones-enough, wiped-not}
+use Rattle.doors.proofs.Ones.{ones, ones-enough}
 use Rattle.doors.specs.Wrong.{Checker, Checked-so, Has-check, Accepts-all, Refuses-all, Ignores-base, Ignores-conclusion, Counts-none, Leaves-check-scratch}
 
 -- C1's certificate without its last number, which states its conclusion
@@ -38,15 +39,7 @@ falls-stated : verdict c1 (before ++ (0 ∷ [])) ≡ falls 20 23
 unfolding verdict
 falls-stated = refl
 
--- both sheets read
-abbrev sheet-of : Got Sheet → Sheet
-sheet-of (got S end) = S
-sheet-of (no n p) = record { props = []; patterns = []; phrases = []; base = []; root = 0 }
-
-c1-reads : sheet c1 ≡ got (sheet-of (sheet c1)) 43
-unfolding sheet
-c1-reads = refl
-
+-- the other sheet reads too
 c5-reads : sheet c5 ≡ got (sheet-of (sheet c5)) 15
 unfolding sheet
 c5-reads = refl

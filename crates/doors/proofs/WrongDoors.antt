@@ -3,8 +3,6 @@ use Prim.Native.Nat.{ℕ}
 use native.Mathlib.Omega.{arith}
 use mathlib.Core.Path.{_≡_, refl, sym, ap, _∙_}
 use mathlib.Core.List.{List, [], _∷_, _++_}
-use lib.ListN.{length, take}
-use Rattle.doors.proofs.Ones.{clash}
 use Rattle.language.specs.Syntax.{Sheet, Phrase, expr, dedu, apply, assume, suppose, dlet, by, block, dmatch, phraseAt}
 use Rattle.language.specs.Numbers.{Got, got, no}
 use Rattle.language.specs.Read.{sheet}
@@ -19,6 +17,7 @@ use Rattle.theorems.specs.Demands.{Deduces-exactly}
 use Rattle.theorems.proofs.Exact.{interpreted}
 use Rattle.language.specs.declared.Evaluated.the-variants.{Accepted, Refused}
 use Rattle.language.specs.declared.Checked.the-variants.{Stands, Falls}
+use Rattle.theorems.proofs.Lists.{clash}
 use Rattle.doors.specs.Wrong.{Evaluator, Refuses-everything, Emits-true-intro, Writes-nothing, Spends-the-budget, Infers-its-work, Leaves-evaluation-scratch, Runs-first-step, Believes-announced, Writes-what-fits, Evaluating, Checker, Accepts-all, Refuses-all, Ignores-base, Ignores-conclusion, Counts-none, Leaves-check-scratch}
 
 -- it refuses, and touches nothing

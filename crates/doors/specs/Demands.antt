@@ -1,5 +1,5 @@
 -- The three demands, of the doors themselves: over any results that the contracts of `evaluate` and `check` allow.
-use Prim.Native.Nat.{ℕ, _≤_, _<_}
+use Prim.Native.Nat.{ℕ, _≤_}
 use mathlib.Core.Path.{_≡_}
 use mathlib.Core.Bool.{true, _&&_}
 use mathlib.Core.List.{List, [], _∷_}

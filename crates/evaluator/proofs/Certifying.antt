@@ -1,7 +1,6 @@
 -- The certificate written, or no room for it, as the definitions' answer.
 use Prim.Native.Nat.{ℕ, _-_}
-use native.Mathlib.Omega.{arith}
-use mathlib.Core.Path.{_≡_, refl, sym, ap, _∙_}
+use mathlib.Core.Path.{_≡_, refl, _∙_}
 use mathlib.Core.Bool.{Bool, true, false}
 use mathlib.Core.List.{List}
 use lib.ListN.{length}
@@ -11,18 +10,15 @@ use Rattle.language.specs.Plain.{inferences}
 use Rattle.language.specs.Run.{Derived}
 use Rattle.language.specs.Certificate.{certificate}
 use Rattle.language.specs.Answer.{written}
-use Rattle.language.specs.Doors.{evaluatedNumbers, fronted, finished}
+use Rattle.language.specs.Doors.{evaluatedNumbers, finished}
 use Rattle.language.specs.declared.Evaluated.{Evaluated}
 use Rattle.language.specs.declared.Evaluated.the-variants.{Accepted, Refused}
 use Rattle.certificates.specs.declared.Written.{Written}
 use Rattle.certificates.specs.declared.Written.the-variants.{Done, Short}
-use Rattle.certificates.specs.Certified.{Writing, Certified, Writes}
+use Rattle.certificates.specs.Certified.{Certified, Writes}
 use Rattle.deductions.specs.declared.Progress.{Progress}
 use Rattle.evaluator.specs.Door.{Gives}
 use Rattle.evaluator.specs.Parts.{Certifies}
-
-clash : _≡_ {A = ℕ} 0 1 → ⊥
-clash e = omega arith
 
 -- the answer for what was written, so much work spent
 unfoldable pub told : ℕ → Written → Evaluated

@@ -21,10 +21,8 @@ use Rattle.language.specs.declared.Work.{Work}
 use Rattle.language.specs.declared.Inferences.{Inferences}
 use Rattle.language.specs.declared.Evaluated.{Evaluated}
 use Rattle.language.specs.declared.Evaluated.the-variants.{Accepted}
+use Rattle.theorems.proofs.Lists.{clash}
 use Rattle.evaluator.specs.Door.{Evaluates}
-
-clash : _≡_ {A = ℕ} 0 1 → ⊥
-clash e = omega arith
 
 -- an answer accepts no more bytes than there is room for
 Fits : ℕ → Answer → Type 0

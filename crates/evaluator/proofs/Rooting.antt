@@ -4,23 +4,23 @@ use native.Mathlib.Omega.{arith}
 use mathlib.Core.Path.{_≡_, refl, sym, ap, ap₂, subst, _∙_}
 use mathlib.Core.List.{List}
 use lib.ListN.{length, getD, take, length-map}
-use lib.Dec.{leb}
 use lib.Seq.{take-all}
 use borrow.Author.Tests.{le-leb}
 use Rattle.language.specs.Form.{Form, verum, member}
 use Rattle.language.specs.Syntax.{Sheet}
-use Rattle.language.specs.Numbers.{Got, got, no, pick}
+use Rattle.language.specs.Numbers.{Got, got, pick}
 use Rattle.language.specs.Read.{sheet}
 use Rattle.language.specs.Values.{empty}
 use Rattle.language.specs.Run.{deduce}
 use Rattle.language.specs.Answer.{Answer, answer, started, ended}
-use Rattle.language.specs.Doors.{evaluationLengths, evaluatedNumbers, finished}
+use Rattle.language.specs.Doors.{evaluatedNumbers, finished}
 use Rattle.language.specs.declared.Evaluated.{Evaluated}
 use Rattle.language.specs.declared.Evaluated.the-variants.{Refused}
+use Rattle.theorems.proofs.Lists.{all-at}
 use Rattle.words.specs.Front.{front}
 use Rattle.words.proofs.Fronts.{take-front, getD-front}
-use Rattle.forms.specs.Table.{tree, Table}
-use Rattle.records.specs.Rows.{flat, cell}
+use Rattle.forms.specs.Table.{tree}
+use Rattle.records.specs.Rows.{cell}
 use Rattle.records.specs.Reading.{Tables, reading}
 use Rattle.reader.specs.declared.Counts.{Counts}
 use Rattle.reader.specs.declared.SheetRead.{SheetRead}
@@ -30,17 +30,15 @@ use Rattle.reader.specs.Stands.{Stands, ReadAs, read, unread}
 use Rattle.reader.specs.Buffers.{Holds}
 use Rattle.reader.proofs.Laying.{patterns-wide, phrases-wide}
 use Rattle.reader.proofs.SheetSaying.{reading-sheet}
-use Rattle.reader.proofs.Opened.{Opened, opened, base-few, all-at, getD-tree, refused-not-read, refused-same}
+use Rattle.reader.proofs.Opened.{Opened, opened, base-few, getD-tree, refused-not-read, refused-same}
 use Rattle.bindings.specs.Stands.{Stands as Standing}
-use Rattle.rules.specs.Base.{Alike, baseOf}
 use Rattle.rules.proofs.Sets.{stack-alike}
-use Rattle.expressions.specs.Machine.{shared, counters}
-use Rattle.expressions.specs.Asked.{Text}
+use Rattle.expressions.specs.Machine.{shared}
 use Rattle.expressions.proofs.Start.{text, world-read}
 use Rattle.expressions.proofs.Sheets.{held}
 use Rattle.deductions.specs.Machine.{M, inner}
-use Rattle.deductions.specs.Asked.{In, Based, Setting, Ready, Room}
-use Rattle.evaluator.specs.Door.{scratch, Gives}
+use Rattle.deductions.specs.Asked.{In, Based, Setting}
+use Rattle.evaluator.specs.Door.{Gives}
 use Rattle.evaluator.specs.Parts.{start, Rooted, Runs}
 
 -- the answer for a sheet that reads
@@ -58,7 +56,7 @@ based-read S T R bs₀ bs b e many =
     let trees : (j : ℕ) → j < length (S .base) → tree (R .trees) (getD bs j 0) ≡ getD (S .base) j verum
     = λ j l. ap (tree (R .trees)) (same j (omega arith)) ∙ sym (getD-tree (R .trees) (T .base) j (omega arith)) ∙ ap (λ (xs : List Form). getD xs j verum) (R .base) in
     record {
-      low = λ j l. let low = all-at (λ p. p < length (T .words)) (T .base) (R .low) j (omega arith) in let at = same j l in omega arith;
+      low = λ j l. let low = all-at (λ p. p < length (T .words)) (T .base) j 0 (R .low) (omega arith) in let at = same j l in omega arith;
       alike = λ p. sym (stack-alike (R .trees) bs (S .base) trees b (omega arith) p ∙ ap (λ (xs : List Form). member p xs) (take-all b (S .base) (omega arith)));
     }
 

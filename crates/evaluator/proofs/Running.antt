@@ -13,14 +13,12 @@ use Rattle.language.specs.Answer.{ended, written}
 use Rattle.language.specs.Doors.{evaluatedNumbers, finished}
 use Rattle.language.specs.declared.Evaluated.{Evaluated}
 use Rattle.language.specs.declared.Evaluated.the-variants.{Refused}
-use Rattle.tokens.specs.Tells.{Tells}
 use Rattle.expressions.specs.Machine.{Shared}
-use Rattle.expressions.specs.Asked.{Text}
 use Rattle.deductions.specs.declared.Progress.{Progress}
 use Rattle.deductions.specs.declared.Conclusion.{Conclusion}
 use Rattle.deductions.specs.declared.Conclusion.the-variants.{Concluded, Refused as Stopped}
 use Rattle.deductions.specs.Machine.{M, mk, concluded, refused, outOf, work}
-use Rattle.deductions.specs.Asked.{In, Setting, Ready, Room}
+use Rattle.deductions.specs.Asked.{Room}
 use Rattle.deductions.specs.Meets.{Meets, Deduced}
 use Rattle.certificates.specs.Certified.{Writing}
 use Rattle.evaluator.specs.Door.{Gives}

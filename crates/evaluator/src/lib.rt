@@ -48,6 +48,8 @@ const NESTING: usize = 64;
 // The evaluation of a sheet. A budget over its limit and a buffer shorter than fixed are refused with everything as it was;
 // else each buffer of the scratch ends zero up to its fixed length and untouched past it, and the output is touched only by a certificate.
 pub fn evaluate(
+    sheet: &[u8],
+    budget: usize,
     listing: &mut [u32],
     forms: &mut [u32],
     patterns: &mut [u32],
@@ -55,8 +57,6 @@ pub fn evaluate(
     base: &mut [u32],
     binds: &mut [u32],
     tokens: &mut [u32],
-    sheet: &[u8],
-    budget: usize,
     out: &mut [u8],
 ) -> Evaluated
     ensures { λ r. ⌜ Evaluates (now (sheet .entry)) budget r (now (out .entry)) (now (out .exit)) (scratch (now (listing .entry)) (now (forms .entry)) (now (patterns .entry)) (now (phrases .entry)) (now (base .entry)) (now (binds .entry)) (now (tokens .entry))) (scratch (now (listing .exit)) (now (forms .exit)) (now (patterns .exit)) (now (phrases .exit)) (now (base .exit)) (now (binds .exit)) (now (tokens .exit))) ⌝ }

@@ -25,6 +25,7 @@ use Rattle.bindings.specs.declared.Value.the-variants.{Constructor}
 use Rattle.bindings.specs.declared.Binding.{Binding}
 use Rattle.bindings.specs.Numbers.{valueAt, nextAt, bindingAt}
 use Rattle.bindings.specs.Stands.{Is, Stands, Chain}
+use Rattle.bindings.proofs.Tags.{tag, held}
 use Rattle.bindings.proofs.Chains.{chain-low}
 use Rattle.expressions.specs.declared.Piece.{Piece}
 use Rattle.expressions.specs.declared.Piece.the-variants.{Formed, Other}
@@ -33,7 +34,6 @@ use Rattle.expressions.specs.Machine.{Shared, M, refused, outOf, partOf,
 use Rattle.expressions.specs.Asked.{Text, Applicable}
 use Rattle.expressions.specs.Meets.{Meets, Called}
 use Rattle.expressions.proofs.Growth.{used}
-use Rattle.expressions.proofs.Operators.{tag, held}
 use Rattle.expressions.proofs.Steps.{trees-few}
 
 -- pieces

@@ -1,24 +1,20 @@
 -- Matches: one law for each return of the functions that evaluate the first phrase and run the clause that fits.
 use mathlib.Core.Path.{_≡_, refl, sym, ap, subst, _∙_}
 use mathlib.Core.List.{List, [], _∷_, _++_, map, append-nil}
-use mathlib.Core.Option.{Option, some, none}
-use Prim.Native.Nat.{ℕ, zero, suc, _+_, _*_, _≤_, _<_}
+use Prim.Native.Nat.{ℕ, _+_, _*_, _≤_, _<_}
 use mathlib.Core.Logic.{⊎-elim}
 use native.Mathlib.Omega.{arith}
 use denote.Enum.Declared.{tagOf}
 use types.Run.{OneOf}
-use lib.ListN.{length, getD, drop}
-use lib.Seq.{getD-drop, drop-drop}
+use lib.ListN.{length, drop}
 use Rattle.language.specs.Refusals.{wrong-kind, no-clause}
 use Rattle.language.specs.Form.{Form}
-use Rattle.language.specs.Syntax.{Pattern, any}
 use Rattle.language.specs.Values.{Val, form, Env, Out, out, stop, next, asForm, withForms}
-use Rattle.language.specs.Patterns.{fits, Choice as Chosen-clause, chosen, unfit, orElse, choose, onChoice}
+use Rattle.language.specs.Patterns.{Choice as Chosen-clause, chosen, unfit, choose, onChoice}
 use Rattle.language.specs.Run.{evaluated, evaluateStep, evaluate}
 use Rattle.forms.specs.Table.{tree, Table}
 use Rattle.records.specs.Rows.{clausesOf}
-use Rattle.reader.specs.Stands.{All}
-use Rattle.reader.proofs.Alls.{all-map}
+use Rattle.theorems.proofs.Lists.{all-map}
 use Rattle.bindings.specs.declared.Value.{Value}
 use Rattle.bindings.specs.declared.Value.the-variants.{Prop, Constructor, Rule, Function, Method}
 use Rattle.bindings.proofs.Value.{the-type}
@@ -26,9 +22,9 @@ use Rattle.bindings.specs.Stands.{Chain}
 use Rattle.bindings.proofs.Chains.{chain-low}
 use Rattle.patterns.specs.declared.Parts.{Parts}
 use Rattle.patterns.specs.declared.Choice.the-variants.{Chosen, Unfit}
-use Rattle.patterns.specs.Parts.{numbers, none-bound, extend}
-use Rattle.patterns.specs.Fitting.{Named, Offered, Picked, Chosen-so}
-use Rattle.patterns.proofs.Extending.{extend-count, extend-numbers}
+use Rattle.patterns.specs.Parts.{numbers}
+use Rattle.patterns.specs.Fitting.{Offered, Picked, Chosen-so}
+use Rattle.patterns.proofs.Clauses.{OnBody, body-of, Binds, binds-of}
 use Rattle.expressions.specs.declared.Piece.the-variants.{Other}
 use Rattle.expressions.specs.Machine.{Shared, M, mk, counters, MOut, done, refused, kind, one, two, partOf, chained, outermost}
 use Rattle.expressions.specs.Asked.{Text, Row, World, Ready, Matching, Bindable}
@@ -38,25 +34,6 @@ use Rattle.expressions.proofs.Growth.{used, world-grew, chain-grew, aft
 use Rattle.expressions.proofs.Steps.{step-is, Got, trees-few}
 use Rattle.expressions.proofs.Constructors.{formed-piece, other-piece}
 use Rattle.expressions.proofs.Parts.{chained-kept, chained-long, chained-stands}
-
--- the body chosen is a clause's
-
-OnBody : (ℕ → Type 0) → Chosen-clause → Type 0
-OnBody G (chosen b ps) = G b
-OnBody G unfit = Unit {0}
-
-body-of : (G : ℕ → Type 0) (qs : List Pattern) (P : Form) (n from : ℕ) (ph : List ℕ) → ((i : ℕ) → i < n → G (getD ph (from + 2 * i + 1) 0)) → OnBody G (choose (clausesOf qs n (drop from ph)) P)
-unfolding OnBody choose clausesOf orElse
-body-of G qs P zero from ph g = tt
-body-of G qs P (suc n) from ph g =
-    go (fits (getD qs (getD (drop from ph) 0 0) any) P) (rw (drop-drop 2 from ph) (body-of G qs P n (from + 2) ph (λ i h. let z : from + 2 + 2 * i + 1 ≡ from + 2 * (i + 1) + 1 = omega arith in rw z (g (i + 1) (omega arith)))))
-  where
-    first : G (getD (drop from ph) 1 0)
-    first = let z : from + 2 * 0 + 1 ≡ from + 1 = omega arith in rw (getD-drop from ph 1 0, ← z) (g 0 (omega arith))
-
-    go : (o : Option (List Form)) → OnBody G (choose (clausesOf qs n (drop 2 (drop from ph))) P) → OnBody G (orElse o (getD (drop from ph) 1 0) (choose (clausesOf qs n (drop 2 (drop from ph))) P))
-    go none rest = rest
-    go (some ps) rest = first
 
 -- the clauses of a match may be tried
 
@@ -94,20 +71,6 @@ module _ (s : Shared) (env k p : ℕ) (m : M) (n : ℕ) (i : n ≡ two (s .phras
       go : (x : Text) (fs : List Form) (e : Env) (q : Chosen-clause) → Picked fs Unfit q → Meets 0 4 (x .rows) m fs (refused no-clause k) (onChoice q k (λ b ps. evaluate (x .phrases) d (withForms e ps) b (m .st .work)))
       go x fs e (chosen b ps) z = absurd z
       go x fs e unfit z = (refl, refl)
-
-  -- what was bound, as a list of numbers
-  record Binds (fs : List Form) (parts : Parts) (ps : List Form) : Type 0 where
-    pub few : parts .count ≤ 4
-    pub count : length (numbers parts) ≡ parts .count
-    pub low : All (λ q. q < length fs) (numbers parts)
-    pub trees : map (tree fs) (numbers parts) ≡ ps
-
-  binds-of : (fs ps : List Form) (parts : Parts) (ns : List ℕ) → parts ≡ extend none-bound ns → Named fs ns ps → length ns ≤ 4 → Binds fs parts ps
-  binds-of fs ps parts ns e N l =
-      let c = extend-count none-bound ns in
-      let u : numbers parts ≡ ns = ap (λ (q : Parts). numbers q) e ∙ extend-numbers none-bound ns (omega arith) in
-      let t : parts .count ≡ 0 + length ns = ap (λ (q : Parts). q .count) e ∙ c in
-      record { few = omega (arith, t, l); count = ap length u ∙ omega (arith, t); low = rw u (N .low); trees = rw u (N .trees) }
 
   module _ (body : ℕ) (parts : Parts) (C : Chosen-so (m .forms) (s .patterns) (s .phrases) (12 * k + 3) n p (Chosen body parts)) where
     pub parts-bindable : Matching s m env k p → Bindable (m .binds) (m .st .bindings) env parts

@@ -14,22 +14,19 @@ use Rattle.language.specs.Syntax.{prop, var, con, rule, abstract, call, bind, m
 use Rattle.forms.specs.Table.{tree}
 use Rattle.forms.proofs.Growth.{tree-more}
 use Rattle.records.specs.Rows.{cell, flat, phraseCells, patternBy, patternOf, phraseOf, clausesOf, sortOf}
-use Rattle.reader.specs.Stands.{All, Earlier, Expr, Dedu, ClauseOf, PatternRow, any-row, exactly-row, not-row, join-row, PatternRows, PhraseRows, PhraseRow}
+use Rattle.theorems.specs.Lists.{All}
+use Rattle.theorems.proofs.Lists.{all-at}
+use Rattle.reader.specs.Stands.{Earlier, Expr, Dedu, ClauseOf, PatternRow, any-row, exactly-row, not-row, join-row, PatternRows, PhraseRows, PhraseRow}
 use Rattle.reader.specs.Stands.{prop-row, var-row, con-row, rule-row, function-row, method-row, call-row, let-row, fix-row as fix-cells, match-row, apply-row, assume-row, suppose-row, dlet-row, by-row, block-row, dmatch-row}
-use Rattle.reader.proofs.Laying.{phrases-wide}
+use Rattle.reader.proofs.Laying.{phrase-at-wide}
 use Rattle.bindings.specs.Stands.{kindOfSort}
+use Rattle.patterns.proofs.Clauses.{clauses-by}
 use Rattle.expressions.specs.Machine.{Shared, M, kind, one, two, listed}
 use Rattle.expressions.specs.Asked.{Text, Row, World}
 
 -- members of lists
-all-at : (G : ℕ → Type 0) (xs : List ℕ) (i : ℕ) → All G xs → i < length xs → G (getD xs i 0)
-unfolding All
-all-at G [] i h l = absurd (omega arith)
-all-at G (x ∷ xs) zero h l = h .0
-all-at G (x ∷ xs) (suc i) h l = all-at G xs i (h .1) (omega arith)
-
 clause-at : (nq : ℕ) (G : ℕ → Type 0) (cs : List (List ℕ)) (i : ℕ) → All (ClauseOf nq G) cs → i < length cs → (getD (flat cs) (2 * i) 0 < nq) × G (getD (flat cs) (2 * i + 1) 0)
-unfolding All flat
+unfolding flat
 clause-at nq G [] i h l = absurd (omega arith)
 clause-at nq G (c ∷ cs) zero ((q, j, e, a, g), hs) l = rw e (a, g)
 clause-at nq G (c ∷ cs) (suc i) ((q, j, e, a, g), hs) l =
@@ -38,7 +35,7 @@ clause-at nq G (c ∷ cs) (suc i) ((q, j, e, a, g), hs) l =
     rw (y, z, e) (clause-at nq G cs i hs (omega arith))
 
 flat-long : (nq : ℕ) (G : ℕ → Type 0) (cs : List (List ℕ)) → All (ClauseOf nq G) cs → length (flat cs) ≡ 2 * length cs
-unfolding flat All
+unfolding flat
 flat-long nq G [] h = refl
 flat-long nq G (c ∷ cs) ((q, j, e, _, _), hs) =
     let l = flat-long nq G cs hs in
@@ -98,7 +95,7 @@ Operands words nq rows k row c =
     c ⊥
 
 several : (G : ℕ → Type 0) (a b n : ℕ) (xs : List ℕ) → length xs ≡ n → n ≤ 4 → All G xs → Several n (phraseCells (a ∷ (b ∷ (n ∷ xs)))) 3 G
-several G a b n xs l h g i q = rw (past-3 a b n xs i (omega arith) (omega arith)) (all-at G xs i g (omega arith))
+several G a b n xs l h g i q = rw (past-3 a b n xs i (omega arith) (omega arith)) (all-at G xs i 0 g (omega arith))
 
 clauses : (nq : ℕ) (G : ℕ → Type 0) (a b n : ℕ) (cs : List (List ℕ)) → length cs ≡ n → n ≤ 4 → All (ClauseOf nq G) cs → Clauses nq n (phraseCells (a ∷ (b ∷ (n ∷ flat cs)))) G
 clauses nq G a b n cs l h g i q =
@@ -124,7 +121,7 @@ operands (assume-row a b) = (a, b)
 operands (suppose-row a b) = (a, b)
 operands (dlet-row a b) = (a, b)
 operands (by-row a b) = (a, b)
-operands {k = k} {rows = rows} (block-row {n} xs l a b c) = (a, b, λ i q. rw (past-2 21 n xs i (omega arith) (omega arith)) (all-at (Dedu rows k) xs i c (omega arith)))
+operands {k = k} {rows = rows} (block-row {n} xs l a b c) = (a, b, λ i q. rw (past-2 21 n xs i (omega arith) (omega arith)) (all-at (Dedu rows k) xs i 0 c (omega arith)))
 operands {nq = nq} {k = k} {rows = rows} (dmatch-row {f} {n} cs a l b c d) = (a, b, c, clauses nq (Dedu rows k) 22 f n cs l c d)
 
 -- an expression's kind is 9 at most
@@ -225,6 +222,17 @@ module _ (fs gs : List Form) where
     small = R .small;
   }
 
+-- numbers read one by one are a list's
+pub listed-by : (ph : List ℕ) (n i : ℕ) (ys : List ℕ) → n ≤ length ys → ((j : ℕ) → j < n → getD ph (i + j) 0 ≡ getD ys j 0) → listed ph i n ≡ take n ys
+unfolding listed
+listed-by ph zero i ys h e = refl
+listed-by ph (suc n) i [] h e = absurd (omega arith)
+listed-by ph (suc n) i (y ∷ ys) h e =
+    let z : i + 0 ≡ i = omega arith in
+    let e₀ : getD ph i 0 ≡ y = rw z at (e 0 (omega arith)) in
+    let f : (j : ℕ) → j < n → getD ph (i + 1 + j) 0 ≡ getD ys j 0 = λ j l. let q : i + 1 + j ≡ i + suc j = omega arith in rw q (e (suc j) (omega arith)) in
+    rw (e₀, listed-by ph n (i + 1) ys (omega arith) f)
+
 -- the numbers of row k where the code reads them, and the phrase that they say
 module _ (x : Text) (fs : List Form) (s : Shared) (m : M) (W : World x fs s m) (k : ℕ) (low : k < length (x .rows)) where
   pub cell-at : (j : ℕ) → j < 12 → getD (s .phrases) (12 * k + j) 0 ≡ cell (x .rows) k j
@@ -243,9 +251,8 @@ module _ (x : Text) (fs : List Form) (s : Shared) (m : M) (W : World x fs s m) (
   pub earlier : (j : ℕ) → Expr (x .rows) k j → Row x j
   earlier j (l, c) = (omega arith, c)
 
-  module _ (c : ℕ) (e : kind (s .phrases) k ≡ c) where
-    kind-is : cell (x .rows) k 0 ≡ c
-    kind-is = sym kind-at ∙ e
+  pub kind-is : (c : ℕ) → kind (s .phrases) k ≡ c → cell (x .rows) k 0 ≡ c
+  kind-is c e = sym kind-at ∙ e
 
   abbrev row : List ℕ
   row = getD (x .rows) k []
@@ -280,24 +287,14 @@ module _ (x : Text) (fs : List Form) (s : Shared) (m : M) (W : World x fs s m) (
   unfolding phraseOf
   says-fix e = W .says .says k low ∙ rw (kind-is 8 e, cell-at 1 (omega arith))
 
-  wide : length row ≡ 12
-  wide = phrases-wide (W .says) k low
+  pub wide : length row ≡ 12
+  wide = phrase-at-wide (W .says) k low
 
-  listed-by : (n i : ℕ) (ys : List ℕ) → n ≤ length ys → ((j : ℕ) → j < n → getD (s .phrases) (i + j) 0 ≡ getD ys j 0) → listed (s .phrases) i n ≡ take n ys
-  unfolding listed
-  listed-by zero i ys h e = refl
-  listed-by (suc n) i [] h e = absurd (omega arith)
-  listed-by (suc n) i (y ∷ ys) h e =
-      let z : i + 0 ≡ i = omega arith in
-      let e₀ : getD (s .phrases) i 0 ≡ y = rw z at (e 0 (omega arith)) in
-      let f : (j : ℕ) → j < n → getD (s .phrases) (i + 1 + j) 0 ≡ getD ys j 0 = λ j l. let q : i + 1 + j ≡ i + suc j = omega arith in rw q (e (suc j) (omega arith)) in
-      rw (e₀, listed-by n (i + 1) ys (omega arith) f)
-
-  -- from the third number on
-  rest-at : (j : ℕ) → j < 9 → getD (s .phrases) (12 * k + 3 + j) 0 ≡ getD (drop 3 row) j 0
-  rest-at j h =
-      let z : 12 * k + 3 + j ≡ 12 * k + (3 + j) = omega arith in
-      ap (λ (i : ℕ). getD (s .phrases) i 0) z ∙ cell-at (3 + j) (omega arith) ∙ sym (getD-drop 3 row j 0)
+  -- from the number after the first i on
+  pub rest-at : (i j : ℕ) → i + j < 12 → getD (s .phrases) (12 * k + i + j) 0 ≡ getD (drop i row) j 0
+  rest-at i j h =
+      let z : 12 * k + i + j ≡ 12 * k + (i + j) = omega arith in
+      ap (λ (q : ℕ). getD (s .phrases) q 0) z ∙ cell-at (i + j) h ∙ sym (getD-drop i row j 0)
 
   pub says-call : kind (s .phrases) k ≡ 6 → phraseAt (x .phrases) k ≡ expr (call (one (s .phrases) k) (listed (s .phrases) (12 * k + 3) (two (s .phrases) k)))
   unfolding phraseOf Operands
@@ -305,22 +302,15 @@ module _ (x : Text) (fs : List Form) (s : Shared) (m : M) (W : World x fs s m) (
       let n : two (s .phrases) k ≡ cell (x .rows) k 2 = cell-at 2 (omega arith) in
       let few = operands-at 6 e .1 in
       let long : length (drop 3 row) ≡ 9 = length-drop 3 row ∙ rw wide in
-      let l = listed-by (cell (x .rows) k 2) (12 * k + 3) (drop 3 row) (omega (arith, few, long)) (λ j h. rest-at j (omega (arith, few, h))) in
+      let l = listed-by (s .phrases) (cell (x .rows) k 2) (12 * k + 3) (drop 3 row) (omega (arith, few, long)) (λ j h. rest-at 3 j (omega (arith, few, h))) in
       W .says .says k low ∙ rw (kind-is 6 e, cell-at 1 (omega arith), n, l)
-
-  clauses-by : (qs : List Pattern) (n : ℕ) (xs ys : List ℕ) → ((j : ℕ) → j < 2 * n → getD xs j 0 ≡ getD ys j 0) → clausesOf qs n xs ≡ clausesOf qs n ys
-  unfolding clausesOf
-  clauses-by qs zero xs ys e = refl
-  clauses-by qs (suc n) xs ys e =
-      let f : (j : ℕ) → j < 2 * n → getD (drop 2 xs) j 0 ≡ getD (drop 2 ys) j 0 = λ j h. getD-drop 2 xs j 0 ∙ e (2 + j) (omega arith) ∙ sym (getD-drop 2 ys j 0) in
-      rw (e 0 (omega arith), e 1 (omega arith), clauses-by qs n (drop 2 xs) (drop 2 ys) f)
 
   pub says-match : kind (s .phrases) k ≡ 9 → phraseAt (x .phrases) k ≡ expr (match (one (s .phrases) k) (clausesOf (x .patterns) (two (s .phrases) k) (drop (12 * k + 3) (s .phrases))))
   unfolding phraseOf Operands
   says-match e =
       let n : two (s .phrases) k ≡ cell (x .rows) k 2 = cell-at 2 (omega arith) in
       let few = operands-at 9 e .2 in
-      let l = clauses-by (x .patterns) (cell (x .rows) k 2) (drop (12 * k + 3) (s .phrases)) (drop 3 row) (λ j h. getD-drop (12 * k + 3) (s .phrases) j 0 ∙ rest-at j (omega (arith, few, h))) in
+      let l = clauses-by (x .patterns) (cell (x .rows) k 2) (drop (12 * k + 3) (s .phrases)) (drop 3 row) (λ j h. getD-drop (12 * k + 3) (s .phrases) j 0 ∙ rest-at 3 j (omega (arith, few, h))) in
       W .says .says k low ∙ rw (kind-is 9 e, cell-at 1 (omega arith), n, l)
 
 abbrev one-if : Bool → ℕ

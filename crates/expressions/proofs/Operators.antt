@@ -15,46 +15,14 @@ use Rattle.language.specs.Run.{called, evaluate, Evaluate}
 use Rattle.records.specs.Rows.{cell}
 use Rattle.bindings.specs.declared.Closure.{Closure}
 use Rattle.bindings.specs.declared.Value.{Value}
-use Rattle.bindings.specs.declared.Value.the-variants.{Prop, Constructor, Rule, Function, Method}
+use Rattle.bindings.specs.declared.Value.the-variants.{Prop, Rule, Function, Method}
 use Rattle.bindings.specs.Stands.{Stands}
+use Rattle.bindings.proofs.Tags.{tag, held, kindOf, same-kind}
 use Rattle.expressions.specs.Machine.{Shared, M, MOut, refused, one, two}
 use Rattle.expressions.specs.Asked.{Ready, Applicable}
 use Rattle.expressions.specs.Meets.{Meets, Evaluated, Called}
 use Rattle.expressions.proofs.Operands.{cell-at, row-inside, body-row}
 use Rattle.expressions.proofs.Growth.{within}
-
--- kinds of values
-
-abbrev pub tag : Value → ℕ
-tag (Prop p) = 0
-tag (Constructor c) = 1
-tag (Rule r) = 2
-tag (Function f) = 3
-tag (Method f) = 4
-
-abbrev pub held : Value → ℕ
-held (Prop p) = p
-held (Constructor c) = c
-held (Rule r) = r
-held (Function f) = f .phrase
-held (Method f) = f .phrase
-
-kindOf : Val → ℕ
-kindOf (form P) = 0
-kindOf (conV c) = 1
-kindOf (ruleV r) = 2
-kindOf (closure function self m b e) = 3
-kindOf (closure method self m b e) = 4
-
-same-kind : (rows : List (List ℕ)) (fs : List Form) (t : List ℕ) (n : ℕ) (X : Val) (v : Value) → Stands rows fs t n X v → kindOf X ≡ tag v
-unfolding Stands kindOf
-same-kind rows fs t n (form P) v x = ap tag (sym (x .1))
-same-kind rows fs t n (conV c) v x = ap tag (sym (x .0))
-same-kind rows fs t n (ruleV r) v x = ap tag (sym (x .0))
-same-kind rows fs t n (closure function false m b e) v x = ap tag (sym (x .1))
-same-kind rows fs t n (closure method false m b e) v x = ap tag (sym (x .1))
-same-kind rows fs t n (closure function true m b e) v x = ap tag (sym (x .2))
-same-kind rows fs t n (closure method true m b e) v x = ap tag (sym (x .2))
 
 -- values that cannot be called
 

@@ -8,7 +8,7 @@ use lib.Seq.{sets, length-sets}
 use Rattle.language.specs.Form.{Form}
 use Rattle.language.specs.Values.{form, Env, _▸_, withForms}
 use Rattle.forms.specs.Table.{tree}
-use Rattle.reader.specs.Stands.{All}
+use Rattle.theorems.specs.Lists.{All}
 use Rattle.bindings.specs.declared.Value.the-variants.{Prop}
 use Rattle.bindings.specs.Numbers.{numbersOf, Small, Kept}
 use Rattle.bindings.specs.Stands.{Stands, Chain}
@@ -43,7 +43,6 @@ none-bound t n env p e = rw e (refl, refl)
 
 module _ (t : List ℕ) (n env : ℕ) (p : Parts) (h : p .count ≡ 0 → ⊥) (A : Bindable t n env p) where
   first-low : (p .first < 16384) × All (λ q. q < 16384) (numbers (later p))
-  unfolding All
   first-low = rw (first-later p h (A .few)) at (A .low)
 
   pub bound-fits : (4 * n + 4 ≤ length t) × Small (record { value = Prop (p .first); next = env })
@@ -81,7 +80,7 @@ chained-long (p ∷ ps) t n env = chained-long ps (sets t (4 * n) (numbersOf (Pr
 
 pub chained-stands : (ns : List ℕ) (rows : List (List ℕ)) (fs : List Form) (t : List ℕ) (n env : ℕ) (e : Env) → 4 * (n + length ns) ≤ length t → Chain rows fs t n e env → All (λ p. p < length fs) ns
     → Chain rows fs (chained t n env ns) (n + length ns) (withForms e (map (tree fs) ns)) (outermost n env ns)
-unfolding chained outermost withForms All Stands
+unfolding chained outermost withForms Stands
 chained-stands [] rows fs t n env e h c a = let z : n + 0 ≡ n = omega arith in rw z c
 chained-stands (p ∷ ps) rows fs t n env e h c a =
     let u = sets t (4 * n) (numbersOf (Prop p) env) in

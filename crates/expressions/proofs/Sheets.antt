@@ -8,12 +8,12 @@ use Rattle.words.specs.Front.{front}
 use Rattle.words.proofs.Fronts.{take-front}
 use Rattle.records.specs.Rows.{flat}
 use Rattle.records.specs.Reading.{Tables, reading}
+use Rattle.records.proofs.Tables.{Wide, flat-long}
 use Rattle.reader.specs.declared.Counts.{Counts}
-use Rattle.reader.specs.declared.SheetRead.{SheetRead}
 use Rattle.reader.specs.declared.SheetRead.the-variants.{Read}
 use Rattle.reader.specs.Buffers.{Holds}
 use Rattle.reader.specs.Laid.{Laid}
-use Rattle.reader.proofs.Laying.{Wide, flat-long, laid, patterns-wide, phrases-wide}
+use Rattle.reader.proofs.Laying.{laid, patterns-wide, phrases-wide}
 use Rattle.reader.proofs.Opened.{opened}
 use Rattle.expressions.specs.Machine.{shared, mk, counters, kind}
 use Rattle.expressions.specs.Asked.{Ready}

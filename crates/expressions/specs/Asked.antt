@@ -6,7 +6,8 @@ use lib.ListN.{length, getD}
 use Rattle.language.specs.Form.{Form}
 use Rattle.language.specs.Syntax.{Phrase, Pattern}
 use Rattle.language.specs.Values.{Val, Env, withAll, scope}
-use Rattle.reader.specs.Stands.{All, Expr, PhraseRows}
+use Rattle.theorems.specs.Lists.{All}
+use Rattle.reader.specs.Stands.{Expr, PhraseRows}
 use Rattle.reader.specs.Buffers.{Holds}
 use Rattle.bindings.specs.declared.Value.{Value}
 use Rattle.bindings.specs.Stands.{Stands, Chain}

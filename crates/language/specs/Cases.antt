@@ -1,7 +1,7 @@
 -- The starred cases on the bench: one table, one theorem, by computation.
 use Prim.Native.Nat.{ℕ}
 use mathlib.Core.Path.{_≡_, refl}
-use mathlib.Core.List.{List, [], _∷_, map}
+use mathlib.Core.List.{List, [], _∷_}
 use lib.ListN.{getD}
 use Rattle.language.specs.Form.{Form, conj, disj, cond, atom, verum, neg, bin}
 use Rattle.language.specs.Numbers.{Got, got, no}

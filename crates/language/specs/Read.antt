@@ -6,9 +6,9 @@ use lib.ListN.{length, getD}
 use lib.Dec.{leb, eqb}
 use Rattle.language.specs.Refusals.{out-of-range, wrong-reference, bytes-after}
 use Rattle.language.specs.Form.{Conn, Form, conj, disj, cond, bicond, atom, verum, falsum, neg, bin}
-use Rattle.language.specs.Syntax.{Pattern, any, exactly, negP, binP, Clause, Sort, function, method, Phrase, expr, dedu, Sheet, phraseAt}
-use Rattle.language.specs.Syntax.{Expression, prop, var, con, rule, abstract, call, bind, match, Deduction, apply, assume, suppose, dlet, by, block, dmatch}
-use Rattle.language.specs.Numbers.{Got, got, no, then, check, number, from, below, times, record-at}
+use Rattle.language.specs.Syntax.{Pattern, any, exactly, negP, binP, Clause, function, method, Phrase, expr, dedu, Sheet, phraseAt}
+use Rattle.language.specs.Syntax.{prop, var, con, rule, abstract, call, bind, match, apply, assume, suppose, dlet, by, block, dmatch}
+use Rattle.language.specs.Numbers.{Got, got, no, then, check, from, below, times, record-at}
 
 -- the proposition that a reference below the count names
 unfoldable pub reference : List ℕ → List Form → ℕ → Got Form

@@ -1,7 +1,6 @@
 -- How phrases run: an interpreter with a budget of work and a limit on nesting, and the refusal of each thing that can go wrong.
 use Prim.Native.Nat.{ℕ}
 use mathlib.Core.List.{List, [], _∷_, _++_}
-use mathlib.Core.Bool.{true, false}
 use lib.ListN.{length, getD}
 use lib.Dec.{eqb}
 use Rattle.language.specs.Refusals.{budget-spent, too-deep, wrong-kind, wrong-count, wrong-shapes, premise-missing, announced-differs, not-false}

@@ -1,7 +1,7 @@
 -- What a sheet says once it is read. Propositions and patterns are trees; a phrase names phrases by number.
 use Prim.Native.Nat.{ℕ}
 use mathlib.Core.List.{List}
-use mathlib.Core.Bool.{Bool, true, false}
+use mathlib.Core.Bool.{Bool}
 use lib.ListN.{getD}
 use Rattle.language.specs.Form.{Conn, Form}
 

@@ -1,7 +1,7 @@
 -- What a reading that is not refused gives: a number in its range, and a place further on, inside the bytes or at their end.
 use Prim.Native.Nat.{ℕ, _+_, _*_, _-_, _≤_, _<_}
 use mathlib.Core.Path.{_≡_, refl, _∙_}
-use mathlib.Core.Bool.{Bool, true, false, _&&_}
+use mathlib.Core.Bool.{Bool, true, false, _&&_, and-eq-true-iff}
 use mathlib.Core.List.{List}
 use native.Mathlib.Omega.{arith}
 use lib.ListN.{length, getD}
@@ -24,9 +24,17 @@ unfolding check
 check-got true n p g a next e = record { held = refl; read = e }
 check-got false n p g a next e = not-got n p a next e
 
-both : (a b : Bool) → a && b ≡ true → (a ≡ true) × (b ≡ true)
-both true b e = (refl, e)
-both false b e = let z : _≡_ {A = ℕ} 0 1 = cc in absurd (omega arith)
+-- the first of two readings, and the rest
+pub record Then {A B : Type 0} (g : Got A) (f : A → ℕ → Got B) (b : B) (next : ℕ) : Type 0 where
+  pub value : A
+  pub place : ℕ
+  pub first : g ≡ got value place
+  pub rest : f value place ≡ got b next
+
+pub then-got : {A B : Type 0} (g : Got A) (f : A → ℕ → Got B) (b : B) (next : ℕ) → then g f ≡ got b next → Then g f b next
+unfolding then
+then-got (got a at) f b next e = record { value = a; place = at; first = refl; rest = e }
+then-got (no n p) f b next e = not-got n p b next e
 
 -- the place past a number
 pub record Place (s : List ℕ) (at next : ℕ) : Type 0 where
@@ -96,7 +104,7 @@ module _ (s : List ℕ) (at v next : ℕ) where
       go : (g : Got ℕ) → number s at ≡ g → then g (λ w m. check (leb low w && leb w top) out-of-range at (got w m)) ≡ got v next → Ranged low top
       go (got w m) r f =
           let p = check-got _ _ _ _ _ _ f in
-          let t = both _ _ (p .held) in
+          let t = and-eq-true-iff _ _ .0 (p .held) in
           let same : got w m ≡ got v next = p .read in
           let z : w ≡ v = cc in
           record { read = r ∙ same; from-low = omega (arith, leb-true low w (t .0)); to-top = omega (arith, leb-true w top (t .1)) }

@@ -6,10 +6,7 @@ use native.Mathlib.Omega.{arith}
 use lib.ListN.{length}
 use borrow.Author.Tests.{lt-ltb, le-ltb}
 use Rattle.language.specs.Numbers.{groups, pick}
-
-pub one-group : (v : ℕ) → v < 128 → groups v ≡ v ∷ []
-unfolding groups pick
-one-group v h = simp (lt-ltb v 128 h)
+use Rattle.theorems.proofs.Spelling.{one-group}
 
 pub two-groups : (v : ℕ) → 128 ≤ v → v < 16384 → groups v ≡ (128 + v % 128) ∷ (v / 128 ∷ [])
 unfolding groups pick

@@ -9,7 +9,8 @@ use lib.Dec.{ltb}
 use lib.Seq.{sets, sets-eq, length-take-le, getD-append-add}
 use borrow.Author.Tests.{lt-ltb, le-ltb, le-leb, ltb-true, ltb-false}
 use Rattle.language.specs.Numbers.{got, number, second, third, check, pick, groups}
-use Rattle.numbers.proofs.Groups.{one-group, two-groups, three-groups}
+use Rattle.theorems.proofs.Spelling.{one-group}
+use Rattle.numbers.proofs.Groups.{two-groups, three-groups}
 
 -- numbers of one, two and three groups, by the bytes at their places
 module _ (s : List ℕ) (at : ℕ) where

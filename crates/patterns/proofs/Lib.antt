@@ -1,5 +1,6 @@
 pub mod Shapes
 pub mod Extending
+pub mod Clauses
 -- one law for each return
 pub mod Trying
 pub mod Choosing

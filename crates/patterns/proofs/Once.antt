@@ -11,7 +11,7 @@ use Rattle.language.specs.Patterns.{fits, Choice as Chosen-clause, chosen, unfi
 use Rattle.forms.specs.Table.{tree, Table}
 use Rattle.forms.proofs.Trees.{distinct}
 use Rattle.records.specs.Rows.{clausesOf}
-use Rattle.reader.specs.Stands.{All}
+use Rattle.theorems.specs.Lists.{All}
 use Rattle.patterns.specs.declared.Parts.{Parts}
 use Rattle.patterns.specs.declared.Fit.{Fit}
 use Rattle.patterns.specs.declared.Fit.the-variants.{Fits, Misses}
@@ -22,7 +22,6 @@ use Rattle.patterns.specs.Fitting.{Named, Tried, Fitted, Fits-so, Offere
 
 module _ (ws : List ℕ) (fs : List Form) (T : Table ws fs) where
   same-names : (ns ms : List ℕ) → map (tree fs) ns ≡ map (tree fs) ms → All (λ p. p < length fs) ns → All (λ p. p < length fs) ms → ns ≡ ms
-  unfolding All
   same-names [] [] e h g = refl
   same-names [] (m ∷ ms) e h g = absurd (let z = ap length e in omega arith)
   same-names (n ∷ ns) [] e h g = absurd (let z = ap length e in omega arith)

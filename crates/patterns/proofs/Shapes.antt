@@ -10,7 +10,7 @@ use Rattle.language.specs.Form.{Conn, conj, disj, cond, bicond, Form, sameConn,
 use Rattle.language.specs.Syntax.{Pattern, negP, binP}
 use Rattle.language.specs.Numbers.{pick}
 use Rattle.language.specs.Patterns.{fits, joinFits}
-use Rattle.forms.specs.Word.{kind, left, right, word, Rec, atomR, verumR, falsumR, negR, binR, kindC, code, Below}
+use Rattle.forms.specs.Word.{kind, left, right, Rec, atomR, verumR, falsumR, negR, binR, kindC, code, Below}
 use Rattle.forms.specs.Table.{tree, formed}
 use Rattle.forms.proofs.Records.{kind-word, left-word, right-word, kindC-from, kindC-to}
 use Rattle.records.specs.Rows.{patternBy}

@@ -2,7 +2,7 @@
 use Prim.Native.Nat.{ℕ, zero, suc, _+_, _*_, _≤_, _<_}
 use mathlib.Core.Path.{_≡_, refl, sym, ap, subst, _∙_}
 use mathlib.Core.Bool.{Bool, true, false}
-use mathlib.Core.List.{List, [], _∷_, _++_, map}
+use mathlib.Core.List.{List, [], _∷_, _++_, map-append}
 use mathlib.Core.Option.{Option, some, none}
 use native.Mathlib.Omega.{arith}
 use native.Mathlib.Decide.{ℕ-discrete as decEq}
@@ -17,7 +17,8 @@ use Rattle.forms.specs.Word.{kind, left, right, code}
 use Rattle.forms.specs.Table.{tree, Row}
 use Rattle.forms.proofs.Trees.{same-at}
 use Rattle.records.specs.Rows.{cell, patternOf, patternBy}
-use Rattle.reader.specs.Stands.{All, PatternRow, any-row, exactly-row, not-row, join-row}
+use Rattle.theorems.proofs.Lists.{all-append}
+use Rattle.reader.specs.Stands.{PatternRow, any-row, exactly-row, not-row, join-row}
 use Rattle.patterns.specs.declared.Parts.{Parts}
 use Rattle.patterns.specs.declared.Fit.{Fit}
 use Rattle.patterns.specs.declared.Fit.the-variants.{Fits, Misses}
@@ -34,15 +35,6 @@ getD-taken (suc n) (x ∷ l) zero h = refl
 getD-taken (suc n) (x ∷ l) (suc i) h = getD-taken n l i (omega arith)
 
 -- names, one list after another
-all-append : (G : ℕ → Type 0) (xs ys : List ℕ) → All G xs → All G ys → All G (xs ++ ys)
-unfolding All
-all-append G [] ys g h = h
-all-append G (x ∷ xs) ys g h = (g .0, all-append G xs ys (g .1) h)
-
-map-append : (f : ℕ → Form) (xs ys : List ℕ) → map f (xs ++ ys) ≡ map f xs ++ map f ys
-map-append f [] ys = refl
-map-append f (x ∷ xs) ys = ap (λ (l : List Form). f x ∷ l) (map-append f xs ys)
-
 named-append : (fs : List Form) (ms ns : List ℕ) (ps qs : List Form) → Named fs ms ps → Named fs ns qs → Named fs (ms ++ ns) (ps ++ qs)
 named-append fs ms ns ps qs x y = record {
   trees = map-append (tree fs) ms ns ∙ rw (x .trees, y .trees);
@@ -351,13 +343,13 @@ module _ (forms patterns : List ℕ) (q p : ℕ) (b : Parts) where
   any-room x k i e = let r = room-at forms patterns q p b x any (any-at x (sym i ∙ e)) in omega arith
 
   pub any-fits : (k : ℕ) (c : Parts) → k ≡ getD patterns (5 * q) 0 → k ≡ 0 → c ≡ with b p → Fits-so forms patterns q p b (Fits c)
-  unfolding Fitted fits binders extend All
+  unfolding Fitted fits binders extend
   any-fits k c i e f = record {
     meets = λ x. rw (any-at x (sym i ∙ e)) (p ∷ [], f, record { trees = refl; low = (x .proposition, tt) }, refl);
   }
 
   exact-by : (fs : List Form) (P : Form) (t : Bool) → Fitted fs (exactly P) b (same-number t b) (pick t (some []) none)
-  unfolding Fitted same-number pick extend binders All
+  unfolding Fitted same-number pick extend binders
   exact-by fs P true = ([], refl, record { trees = refl; low = tt }, refl)
   exact-by fs P false = tt
 

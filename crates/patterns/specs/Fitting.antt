@@ -12,7 +12,8 @@ use Rattle.language.specs.Read.{binders}
 use Rattle.language.specs.Patterns.{fits, Choice as Chosen-clause, chosen, unfit, choose}
 use Rattle.forms.specs.Table.{tree, Table}
 use Rattle.records.specs.Rows.{cell, clausesOf}
-use Rattle.reader.specs.Stands.{All, PatternRows}
+use Rattle.theorems.specs.Lists.{All}
+use Rattle.reader.specs.Stands.{PatternRows}
 use Rattle.reader.specs.Buffers.{Holds}
 use Rattle.patterns.specs.declared.Parts.{Parts}
 use Rattle.patterns.specs.declared.Fit.{Fit}
@@ -46,7 +47,7 @@ pub record Tried (forms patterns : List ℕ) (q p : ℕ) (before : Parts) : Type
 
 -- the answer for a pattern a, and what `fits` gives: what is bound names the propositions that `fits` binds
 unfoldable pub Fitted : List Form → Pattern → Parts → Fit → Option (List Form) → Type 0
-unfolding extend binders All
+unfolding extend binders
 Fitted fs a b (Fits c) (some ps) = (ns : List ℕ) × (c ≡ extend b ns) × Named fs ns ps × (length ns ≡ binders a)
 Fitted fs a b (Fits c) none = ⊥
 Fitted fs a b Misses (some ps) = ⊥
@@ -78,7 +79,7 @@ pub record Offered (forms patterns phrases : List ℕ) (from left p : ℕ) : Typ
 
 -- the clause that is chosen, and what `choose` gives
 unfoldable pub Picked : List Form → Choice → Chosen-clause → Type 0
-unfolding extend All
+unfolding extend
 Picked fs (Chosen k c) (chosen b ps) = (k ≡ b) × ((ns : List ℕ) × (c ≡ extend none-bound ns) × Named fs ns ps × (length ns ≤ 4))
 Picked fs (Chosen k c) unfit = ⊥
 Picked fs Unfit (chosen b ps) = ⊥

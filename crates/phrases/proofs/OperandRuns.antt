@@ -13,7 +13,7 @@ use Rattle.language.specs.Numbers.{Got, got, no, then, check, from, below, time
 use Rattle.words.specs.Front.{front}
 use Rattle.words.proofs.Fronts.{front-put}
 use Rattle.words.proofs.Runs.{sets-sets, front-run}
-use Rattle.numbers.proofs.Bounds.{not-got, check-got, below-got, from-got}
+use Rattle.numbers.proofs.Bounds.{not-got, then-got, check-got, below-got, from-got}
 use Rattle.records.specs.declared.Ended.{Ended}
 use Rattle.records.specs.declared.Ended.the-variants as ended
 use Rattle.phrases.specs.declared.shape.Operand.{Operand}
@@ -23,18 +23,6 @@ use Rattle.records.specs.Reading.{rowRef, exprRow, deduRow, severalRow, clauseR
 use Rattle.phrases.specs.Shapes.{operandAt, abstractionRow, Begun}
 use Rattle.records.specs.Answers.{filled, rowsIn}
 use Rattle.records.proofs.Tables.{rows-long, flat-snoc}
-
--- what follows a reading that gave something
-pub record Went {A B : Type 0} (g : Got A) (f : A → ℕ → Got B) (b : B) (next : ℕ) : Type 0 where
-  pub value : A
-  pub place : ℕ
-  pub first : g ≡ got value place
-  pub second : f value place ≡ got b next
-
-pub then-got : {A B : Type 0} (g : Got A) (f : A → ℕ → Got B) (b : B) (next : ℕ) → then g f ≡ got b next → Went g f b next
-unfolding then
-then-got (got a m) f b next e = record { value = a; place = m; first = refl; second = e }
-then-got (no k q) f b next e = not-got k q b next e
 
 -- two ways to go on that agree on what was read
 pub then-same : {A B : Type 0} (g : Got A) (f h : A → ℕ → Got B) → ((a : A) (m : ℕ) → g ≡ got a m → f a m ≡ h a m) → then g f ≡ then g h
@@ -106,8 +94,8 @@ pub clause-wide : (s : List ℕ) (nq : ℕ) (r : ℕ → Got ℕ) (p : ℕ) (a :
 unfolding clauseRow
 clause-wide s nq r p a next e =
     let x = then-got (below nq s p) _ a next e in
-    let y = then-got (r (x .place)) _ a next (x .second) in
-    let z : got (x .value ∷ (y .value ∷ [])) (y .place) ≡ got a next = y .second in
+    let y = then-got (r (x .place)) _ a next (x .rest) in
+    let z : got (x .value ∷ (y .value ∷ [])) (y .place) ≡ got a next = y .rest in
     let w : x .value ∷ (y .value ∷ []) ≡ a = cc in
     ap length (sym w)
 
@@ -149,7 +137,7 @@ module _ {A : Type 0} (X : Run A) where
       let x = then-got (X .read p) _ xs next e in
       let a = x .value in
       let w = X .wide p a (x .place) (x .first) in
-      let h = all-wide n (done ++ (a ∷ [])) (x .place) xs next (x .second) in
+      let h = all-wide n (done ++ (a ∷ [])) (x .place) xs next (x .rest) in
       let l : length (X .numbers (done ++ (a ∷ []))) ≡ length (X .numbers done) + length (X .one a) = ap length (X .more done a) ∙ length-append (X .numbers done) (X .one a) in
       h ∙ omega arith
 
@@ -209,7 +197,7 @@ module _ {A : Type 0} (X : Run A) where
         stored-more next h e t =
             let g : then (X .read p) (λ x. got (sets row to (X .one x))) ≡ got row′ next = sym f ∙ ap (λ (y : Ended). filled y row′) e in
             let x = then-got (X .read p) _ row′ next g in
-            let same : got (sets row to (X .one (x .value))) (x .place) ≡ got row′ next = x .second in
+            let same : got (sets row to (X .one (x .value))) (x .place) ≡ got row′ next = x .rest in
             let k : x .place ≡ next = cc in
             let m : row′ ≡ sets row to (X .one (x .value)) = cc in
             at-more (x .value) next to row′ h (x .first ∙ ap (λ (y : ℕ). got (x .value) y) k) t m

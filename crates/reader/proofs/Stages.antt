@@ -18,7 +18,7 @@ use Rattle.records.specs.Rows.{flat}
 use Rattle.records.specs.Reading.{Kept, Tables, Reading, naming, keeping, nameRef, patternRow, phraseRow, onward, rootAt, afterBase, afterPhrases, afterPatterns, afterProps, reading}
 use Rattle.reader.specs.Parts.{keptAfter, namedAfter, partOne, partTwo, partThree, partFour}
 use Rattle.records.specs.Answers.{ends, rowsIn}
-use Rattle.reader.specs.Laid.{Propositions, Listing, Gathered, counted, Holds, FromBase, FromPhrases, FromPatterns, Laid}
+use Rattle.reader.specs.Laid.{Propositions, Listing, Gathered, counted, ReadSoFar, FromBase, FromPhrases, FromPatterns, Laid}
 
 -- what the tables and every way to go on have, the reading has
 pub onward-has : {A : Type 0} (Q : Tables → Type 0) (T : Tables) (g : Got A) (f : A → ℕ → Reading) → Q T → ((a : A) (at : ℕ) → Q (f a at .tables)) → Q (onward T g f .tables)
@@ -81,7 +81,7 @@ module _ (s : List ℕ) (T : Tables) (at : ℕ) (bs₀ bs : List ℕ) (b : Liste
     root-answered x a = ending g x rooted a
 
 -- the same over the names of a buffer
-module _ (s : List ℕ) (T : Tables) (at props words patterns count : ℕ) (ns hs bs₀ bs : List ℕ) (H : Holds T props words ns) (many : length (T .patterns) ≡ patterns) (are : T .phrases ≡ rowsIn 12 count hs)
+module _ (s : List ℕ) (T : Tables) (at props words patterns count : ℕ) (ns hs bs₀ bs : List ℕ) (H : ReadSoFar T props words ns) (many : length (T .patterns) ≡ patterns) (are : T .phrases ≡ rowsIn 12 count hs)
     (b : Listed) (G : Gathered (partFour s (take props ns) at) b bs₀ bs) where
   G′ : Gathered (partFour s (T .names) at) b bs₀ bs
   G′ = rw (H .names) G
@@ -137,7 +137,7 @@ module _ (s : List ℕ) (T : Tables) (at : ℕ) (hs₀ hs bs₀ : List ℕ) (f :
       rw (phrases-on next e) (record { answered = D .answered; phrases = rw k (L .table); base = D .base })
 
 -- the same over the names of a buffer
-module _ (s : List ℕ) (T : Tables) (at props words patterns : ℕ) (ns hs₀ hs bs₀ : List ℕ) (H : Holds T props words ns) (many : length (T .patterns) ≡ patterns)
+module _ (s : List ℕ) (T : Tables) (at props words patterns : ℕ) (ns hs₀ hs bs₀ : List ℕ) (H : ReadSoFar T props words ns) (many : length (T .patterns) ≡ patterns)
     (f : Listed) (L : Listing 12 512 (partThree s (take props ns) patterns at) f hs₀ hs) where
   L′ : Listing 12 512 (partThree s (T .names) (length (T .patterns)) at) f hs₀ hs
   L′ = rw (H .names, many) L
@@ -146,7 +146,7 @@ module _ (s : List ℕ) (T : Tables) (at props words patterns : ℕ) (ns hs₀ h
   from-phrases-refused = phrases-refused s T at hs₀ hs bs₀ f L′
 
   pub from-phrases-read : (next : ℕ) (r : SheetRead) (bs : List ℕ) → f .ended ≡ ended.At next
-      → ((U : Tables) → Holds U props words ns → length (U .patterns) ≡ patterns → U .phrases ≡ rowsIn 12 (f .count) hs → FromBase (afterBase s U (partFour s (U .names) next)) r bs₀ bs)
+      → ((U : Tables) → ReadSoFar U props words ns → length (U .patterns) ≡ patterns → U .phrases ≡ rowsIn 12 (f .count) hs → FromBase (afterBase s U (partFour s (U .names) next)) r bs₀ bs)
       → FromPhrases (afterPhrases s T (partThree s (T .names) (length (T .patterns)) at)) r hs₀ bs₀ hs bs
   from-phrases-read next r bs e D =
       phrases-read s T at hs₀ hs bs₀ f L′ next r bs e
@@ -188,7 +188,7 @@ module _ (s : List ℕ) (T : Tables) (at : ℕ) (ps₀ ps hs₀ bs₀ : List ℕ
       rw (patterns-on next e) (record { answered = D .answered; patterns = rw k (L .table); phrases = D .phrases; base = D .base })
 
 -- the same over the names of a buffer
-module _ (s : List ℕ) (T : Tables) (at props words : ℕ) (ns ps₀ ps hs₀ bs₀ : List ℕ) (H : Holds T props words ns) (q : Listed) (L : Listing 5 128 (partTwo s (take props ns) at) q ps₀ ps) where
+module _ (s : List ℕ) (T : Tables) (at props words : ℕ) (ns ps₀ ps hs₀ bs₀ : List ℕ) (H : ReadSoFar T props words ns) (q : Listed) (L : Listing 5 128 (partTwo s (take props ns) at) q ps₀ ps) where
   L″ : Listing 5 128 (partTwo s (T .names) at) q ps₀ ps
   L″ = rw (H .names) L
 
@@ -196,7 +196,7 @@ module _ (s : List ℕ) (T : Tables) (at props words : ℕ) (ns ps₀ ps hs₀ b
   from-patterns-refused = patterns-refused s T at ps₀ ps hs₀ bs₀ q L″
 
   pub from-patterns-read : (next : ℕ) (r : SheetRead) (hs bs : List ℕ) → q .ended ≡ ended.At next
-      → ((U : Tables) → Holds U props words ns → length (U .patterns) ≡ q .count → FromPhrases (afterPhrases s U (partThree s (U .names) (length (U .patterns)) next)) r hs₀ bs₀ hs bs)
+      → ((U : Tables) → ReadSoFar U props words ns → length (U .patterns) ≡ q .count → FromPhrases (afterPhrases s U (partThree s (U .names) (length (U .patterns)) next)) r hs₀ bs₀ hs bs)
       → FromPatterns (afterPatterns s T (partTwo s (T .names) at)) r ps₀ hs₀ bs₀ ps hs bs
   from-patterns-read next r hs bs e D =
       patterns-read s T at ps₀ ps hs₀ bs₀ q L″ next r hs bs e
@@ -226,7 +226,7 @@ module _ (s : List ℕ) (ns₀ fs₀ ns fs : List ℕ) (p : Named) (P : Proposit
   abbrev withNames : Tables
   withNames = record { names = partOne s .names; words = partOne s .words; patterns = []; phrases = []; base = [] }
 
-  pub names-hold : Holds withNames (p .props) (p .words) ns
+  pub names-hold : ReadSoFar withNames (p .props) (p .words) ns
   names-hold = record { names = sym (rw (P .names, P .props) (take-front (partOne s .names) ns₀)); props-many = sym (P .props); words-many = sym (P .words) }
 
   pub names-fit : p .props ≤ length ns
@@ -246,7 +246,7 @@ module _ (s : List ℕ) (ns₀ fs₀ ns fs : List ℕ) (p : Named) (P : Proposit
   sheet-on next e = reading-parts s ∙ rw (ended-at (p .ended) (partOne s .ended) next e (P .ended)) (patterns-part s withNames next refl refl refl)
 
   pub whole-read : (next : ℕ) (r : SheetRead) (ps₀ hs₀ bs₀ ps hs bs : List ℕ) → p .ended ≡ ended.At next
-      → ((T : Tables) → Holds T (p .props) (p .words) ns → FromPatterns (afterPatterns s T (partTwo s (T .names) next)) r ps₀ hs₀ bs₀ ps hs bs)
+      → ((T : Tables) → ReadSoFar T (p .props) (p .words) ns → FromPatterns (afterPatterns s T (partTwo s (T .names) next)) r ps₀ hs₀ bs₀ ps hs bs)
       → Laid s r ns₀ fs₀ ps₀ hs₀ bs₀ ns fs ps hs bs
   whole-read next r ps₀ hs₀ bs₀ ps hs bs e D =
       let K = partTwo s (partOne s .names) next in

@@ -11,10 +11,10 @@ use lib.Seq.{length-take-le}
 use Rattle.language.specs.Refusals.{out-of-range}
 use Rattle.language.specs.Numbers.{Got, got, then, number, from, below, times, record-at}
 use Rattle.language.specs.Numbers as sheet
-use Rattle.numbers.proofs.Bounds.{not-got, check-got}
+use Rattle.numbers.proofs.Bounds.{not-got, then-got, check-got}
 use Rattle.forms.specs.Interned.{first}
 use Rattle.records.specs.Rows.{cell, flat, patternCells, phraseCells}
-use Rattle.records.specs.Reading.{Kept, kept, keeping, Props, Tables, Reading, naming, nameRef, smallRow, patternRowKinds, patternRow, phraseRow, oneRow, pairRow, severalRow, clauseRow, clausesRow, onward, afterPhrases, afterPatterns, afterProps, reading}
+use Rattle.records.specs.Reading.{Kept, kept, keeping, Props, Tables, naming, nameRef, smallRow, patternRowKinds, patternRow, phraseRow, oneRow, pairRow, severalRow, clauseRow, clausesRow, afterPatterns, afterProps, reading}
 use Rattle.records.specs.Answers.{rowsIn}
 use Rattle.records.proofs.ByKind.{each-at}
 use Rattle.records.proofs.Tables.{Wide, wide-snoc, rows-flat}
@@ -23,7 +23,6 @@ use Rattle.phrases.specs.declared.shape.Shape.{Shape}
 use Rattle.phrases.specs.declared.shape.Shape.the-variants as shape
 use Rattle.phrases.specs.Shapes.{operandAt, shapeOf, shapedRow}
 use Rattle.phrases.proofs.PhraseKinds.{shaped}
-use Rattle.phrases.proofs.OperandRuns.{then-got}
 use Rattle.reader.specs.declared.SheetRead.{SheetRead}
 use Rattle.reader.specs.Laid.{Laid}
 use Rattle.reader.proofs.Stages.{onward-has, phrases-have}
@@ -42,7 +41,7 @@ pub pattern-width : (s names : List ℕ) (rows : List (List ℕ)) (at : ℕ) (ro
 unfolding patternRow record-at patternRowKinds
 pattern-width s names rows at row next e =
     let x = then-got (number s at) _ row next e in
-    go (x .value) (x .place) (decLt (x .value) 7) (x .second)
+    go (x .value) (x .place) (decLt (x .value) 7) (x .rest)
   where
     d : ℕ → Got (List ℕ)
     d a = sheet.no out-of-range at
@@ -50,16 +49,16 @@ pattern-width s names rows at row next e =
     two : (k a : ℕ) → then (below (length rows) s a) (λ p b. then (below (length rows) s b) (λ q. smallRow at (patternCells k p q (cell rows p 3 + cell rows q 3) (1 + (cell rows p 4 + cell rows q 4))))) ≡ got row next → length row ≡ 5
     two k a f =
         let x = then-got (below (length rows) s a) _ row next f in
-        let y = then-got (below (length rows) s (x .place)) _ row next (x .second) in
-        small-width at k (x .value) (y .value) (cell rows (x .value) 3 + cell rows (y .value) 3) (1 + (cell rows (x .value) 4 + cell rows (y .value) 4)) (y .place) row next (y .second)
+        let y = then-got (below (length rows) s (x .place)) _ row next (x .rest) in
+        small-width at k (x .value) (y .value) (cell rows (x .value) 3 + cell rows (y .value) 3) (1 + (cell rows (x .value) 4 + cell rows (y .value) 4)) (y .place) row next (y .rest)
 
     go : (k a : ℕ) → Dec (k < 7) → getD (patternRowKinds s names rows at) k d a ≡ got row next → length row ≡ 5
     go k a (yes h) f = each-at (λ k. getD (patternRowKinds s names rows at) k d a ≡ got row next → length row ≡ 5) 0 7 (
       (λ f. small-width at 0 0 0 1 1 a row next f),
       (
-        (λ f. let x = then-got (nameRef s names a) _ row next f in small-width at 1 (x .value) 0 0 1 (x .place) row next (x .second)),
+        (λ f. let x = then-got (nameRef s names a) _ row next f in small-width at 1 (x .value) 0 0 1 (x .place) row next (x .rest)),
         (
-          (λ f. let x = then-got (below (length rows) s a) _ row next f in small-width at 2 (x .value) 0 (cell rows (x .value) 3) (1 + cell rows (x .value) 4) (x .place) row next (x .second)),
+          (λ f. let x = then-got (below (length rows) s a) _ row next f in small-width at 2 (x .value) 0 (cell rows (x .value) 3) (1 + cell rows (x .value) 4) (x .place) row next (x .rest)),
           (two 3 a, (two 4 a, (two 5 a, (two 6 a, tt)))),
         ),
       ),
@@ -79,34 +78,34 @@ pub phrase-width : (s names : List ℕ) (nq : ℕ) (rows : List (List ℕ)) (at 
 unfolding phraseRow record-at shapedRow oneRow pairRow severalRow clausesRow
 phrase-width s names nq rows at row next e =
     let x = then-got (number s at) _ row next e in
-    go (x .value) (shapeOf (x .value)) (x .place) (sym (shaped s names nq rows at (x .place) (x .value)) ∙ x .second)
+    go (x .value) (shapeOf (x .value)) (x .place) (sym (shaped s names nq rows at (x .place) (x .value)) ∙ x .rest)
   where
     go : (k : ℕ) (x : Shape) (a : ℕ) → shapedRow s names nq rows at k x a ≡ got row next → length row ≡ 12
     go k shape.Nothing a f = not-got out-of-range at row next f
     go k shape.Name a f =
         let x = then-got (nameRef s names a) _ row next f in
-        cells-width (k ∷ (x .value ∷ [])) row (x .place) next (x .second)
+        cells-width (k ∷ (x .value ∷ [])) row (x .place) next (x .rest)
     go k (shape.One o) a f =
         let x = then-got (operandAt s rows o a) _ row next f in
-        cells-width (k ∷ (x .value ∷ [])) row (x .place) next (x .second)
+        cells-width (k ∷ (x .value ∷ [])) row (x .place) next (x .rest)
     go k (shape.Two o o′) a f =
         let x = then-got (operandAt s rows o a) _ row next f in
-        let y = then-got (operandAt s rows o′ (x .place)) _ row next (x .second) in
-        cells-width (k ∷ (x .value ∷ (y .value ∷ []))) row (y .place) next (y .second)
+        let y = then-got (operandAt s rows o′ (x .place)) _ row next (x .rest) in
+        cells-width (k ∷ (x .value ∷ (y .value ∷ []))) row (y .place) next (y .rest)
     go k (shape.Call o) a f =
         let x = then-got (operandAt s rows operand.Expression a) _ row next f in
-        let y = then-got (from 0 4 s (x .place)) _ row next (x .second) in
-        let z = then-got (times (y .value) (λ acc. operandAt s rows o) [] (y .place)) _ row next (y .second) in
-        cells-width (k ∷ (x .value ∷ (y .value ∷ z .value))) row (z .place) next (z .second)
+        let y = then-got (from 0 4 s (x .place)) _ row next (x .rest) in
+        let z = then-got (times (y .value) (λ acc. operandAt s rows o) [] (y .place)) _ row next (y .rest) in
+        cells-width (k ∷ (x .value ∷ (y .value ∷ z .value))) row (z .place) next (z .rest)
     go k shape.Block a f =
         let y = then-got (from 1 8 s a) _ row next f in
-        let z = then-got (times (y .value) (λ acc. operandAt s rows operand.Deduction) [] (y .place)) _ row next (y .second) in
-        cells-width (k ∷ (y .value ∷ z .value)) row (z .place) next (z .second)
+        let z = then-got (times (y .value) (λ acc. operandAt s rows operand.Deduction) [] (y .place)) _ row next (y .rest) in
+        cells-width (k ∷ (y .value ∷ z .value)) row (z .place) next (z .rest)
     go k (shape.Match o o′) a f =
         let x = then-got (operandAt s rows o a) _ row next f in
-        let y = then-got (from 1 4 s (x .place)) _ row next (x .second) in
-        let z = then-got (times (y .value) (λ acc. clauseRow s nq (operandAt s rows o′)) [] (y .place)) _ row next (y .second) in
-        cells-width (k ∷ (x .value ∷ (y .value ∷ flat (z .value)))) row (z .place) next (z .second)
+        let y = then-got (from 1 4 s (x .place)) _ row next (x .rest) in
+        let z = then-got (times (y .value) (λ acc. clauseRow s nq (operandAt s rows o′)) [] (y .place)) _ row next (y .rest) in
+        cells-width (k ∷ (x .value ∷ (y .value ∷ flat (z .value)))) row (z .place) next (z .rest)
 
 -- rows read in a row
 keeping-wide : (w : ℕ) (read : List (List ℕ) → ℕ → Got (List ℕ)) → ((rows : List (List ℕ)) (at : ℕ) (row : List ℕ) (next : ℕ) → read rows at ≡ got row next → length row ≡ w)

@@ -59,7 +59,7 @@ abbrev pub answer : Reading → SheetRead
 answer X = counted (X .tables) (X .root)
 
 -- what is read already: names, of which the first so many stand in a buffer, and so many words
-pub record Holds (T : Tables) (props words : ℕ) (ns : List ℕ) : Type 0 where
+pub record ReadSoFar (T : Tables) (props words : ℕ) (ns : List ℕ) : Type 0 where
   pub names : T .names ≡ take props ns
   pub props-many : length (T .names) ≡ props
   pub words-many : length (T .words) ≡ words

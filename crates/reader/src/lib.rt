@@ -9,7 +9,7 @@ ghost use lib.ListN.{length, take};
 ghost use Rattle.records.specs.Reading.{Tables, naming, afterBase, afterPhrases, afterPatterns};
 ghost use Rattle.reader.specs.Parts.{partTwo, partThree, partFour};
 ghost use Rattle.records.specs.Answers.{rowsIn};
-ghost use Rattle.reader.specs.Laid.{Space, Propositions, Room, Laid, Holds, FromBase, FromPhrases, FromPatterns};
+ghost use Rattle.reader.specs.Laid.{Space, Propositions, Room, Laid, ReadSoFar, FromBase, FromPhrases, FromPatterns};
 use numbers::Number;
 use records::Ended;
 use records::props;
@@ -112,7 +112,7 @@ fn read_patterns(
     at: usize,
 ) -> SheetRead
     requires { ⌜ (props ≤ length (now names)) × (640 ≤ length (now patterns)) × (6144 ≤ length (now phrases)) × (64 ≤ length (now base)) ⌝ }
-    ensures { λ r. ⌜ ((T : Tables) → Holds T props words (now (names .entry)) → FromPatterns (afterPatterns (now (s .entry)) T (partTwo (now (s .entry)) (T .names) at)) r (now (patterns .entry)) (now (phrases .entry)) (now (base .entry)) (now (patterns .exit)) (now (phrases .exit)) (now (base .exit))) ⌝ }
+    ensures { λ r. ⌜ ((T : Tables) → ReadSoFar T props words (now (names .entry)) → FromPatterns (afterPatterns (now (s .entry)) T (partTwo (now (s .entry)) (T .names) at)) r (now (patterns .entry)) (now (phrases .entry)) (now (base .entry)) (now (patterns .exit)) (now (phrases .exit)) (now (base .exit))) ⌝ }
 {
     let q = parts::patterns(patterns, names, s, props, at);
     let ended = q.ended;
@@ -134,7 +134,7 @@ fn read_phrases(
     at: usize,
 ) -> SheetRead
     requires { ⌜ (props ≤ length (now names)) × (patterns ≤ 128) × (6144 ≤ length (now phrases)) × (64 ≤ length (now base)) ⌝ }
-    ensures { λ r. ⌜ ((T : Tables) → Holds T props words (now (names .entry)) → length (T .patterns) ≡ patterns → FromPhrases (afterPhrases (now (s .entry)) T (partThree (now (s .entry)) (T .names) (length (T .patterns)) at)) r (now (phrases .entry)) (now (base .entry)) (now (phrases .exit)) (now (base .exit))) ⌝ }
+    ensures { λ r. ⌜ ((T : Tables) → ReadSoFar T props words (now (names .entry)) → length (T .patterns) ≡ patterns → FromPhrases (afterPhrases (now (s .entry)) T (partThree (now (s .entry)) (T .names) (length (T .patterns)) at)) r (now (phrases .entry)) (now (base .entry)) (now (phrases .exit)) (now (base .exit))) ⌝ }
 {
     let f = parts::phrases(phrases, names, s, props, patterns, at);
     let ended = f.ended;
@@ -167,7 +167,7 @@ fn read_base(
     at: usize,
 ) -> SheetRead
     requires { ⌜ (props ≤ length (now names)) × (count ≤ 512) × (64 ≤ length (now base)) ⌝ }
-    ensures { λ r. ⌜ ((T : Tables) → Holds T props words (now (names .entry)) → length (T .patterns) ≡ patterns → T .phrases ≡ rowsIn 12 count (now (phrases .entry)) → FromBase (afterBase (now (s .entry)) T (partFour (now (s .entry)) (T .names) at)) r (now (base .entry)) (now (base .exit))) ⌝ }
+    ensures { λ r. ⌜ ((T : Tables) → ReadSoFar T props words (now (names .entry)) → length (T .patterns) ≡ patterns → T .phrases ≡ rowsIn 12 count (now (phrases .entry)) → FromBase (afterBase (now (s .entry)) T (partFour (now (s .entry)) (T .names) at)) r (now (base .entry)) (now (base .exit))) ⌝ }
 {
     let b = parts::base(base, names, s, props, at);
     let ended = b.ended;

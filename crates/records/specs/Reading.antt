@@ -2,7 +2,7 @@
 -- What was read before a refusal is kept, so that every buffer is determined for every input.
 use Prim.Native.Nat.{ℕ, suc, _+_}
 use mathlib.Core.List.{List, [], _∷_, _++_}
-use mathlib.Core.Bool.{Bool, true, false, _&&_, _||_}
+use mathlib.Core.Bool.{_&&_, _||_}
 use lib.ListN.{length, getD}
 use lib.Dec.{ltb, leb, eqb}
 use Rattle.language.specs.Refusals.{out-of-range, wrong-reference, bytes-after}

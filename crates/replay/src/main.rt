@@ -6,6 +6,7 @@
 //                               formed proposition, of the constructor, of the rule, of the phrase; left is what is left of the budget
 //     C SHEET CERTIFICATE       checks a certificate: C 0 CONCLUSION INFERENCES; or C NUMBER PLACE
 //     E BUDGET ROOM SHEET       evaluates, with ROOM bytes of output: E 0 LENGTH WORK INFERENCES CERTIFICATE; or E NUMBER PLACE
+//     T TOKENS BUDGET ROOM SHEET    the same, with a buffer of TOKENS numbers lent for the certificate's tokens
 // Bytes are in hexadecimal, numbers in decimal; a dash stands for no bytes. A line that is no request, or is over 140,000 characters long, gets the line ?.
 ghost use mathlib.Core.Path.{_≡_};
 ghost use Prim.Native.Nat.{_<_, _≤_};
@@ -111,7 +112,10 @@ fn is_answered(line: &[u8]) -> bool {
         return is_check(line);
     }
     if line[0] == b'E' {
-        return is_evaluation(line);
+        return is_evaluation(line, 2, 11264);
+    }
+    if line[0] == b'T' {
+        return is_lent(line);
     }
     false
 }
@@ -302,13 +306,13 @@ fn answer_check(sheet: &[u8], certificate: &[u8]) {
     let mut base = [0u32; 576];
     io::write_all(STDOUT_FILENO, b"C");
     match checker::check(
+        sheet,
+        certificate,
         &mut names,
         &mut forms,
         &mut patterns,
         &mut phrases,
         &mut base,
-        sheet,
-        certificate,
     ) {
         Checked::Stands(conclusion, inferences) => {
             number(0);
@@ -323,12 +327,24 @@ fn answer_check(sheet: &[u8], certificate: &[u8]) {
     io::write_all(STDOUT_FILENO, b"\n");
 }
 
-// E BUDGET ROOM SHEET.
-fn is_evaluation(line: &[u8]) -> bool {
+// T TOKENS BUDGET ROOM SHEET.
+fn is_lent(line: &[u8]) -> bool {
     let to = requests::field_end(line, 2);
     if to < line.len() {
         return match requests::read_decimal(line, 2, to) {
-            Decimal::Number(budget) => is_room(line, to + 1, budget),
+            Decimal::Number(lent) => is_evaluation(line, to + 1, lent),
+            Decimal::Malformed => false,
+        };
+    }
+    false
+}
+
+// BUDGET ROOM SHEET, from a place on, with a buffer of so many tokens.
+fn is_evaluation(line: &[u8], from: usize, lent: usize) -> bool {
+    let to = requests::field_end(line, from);
+    if to < line.len() {
+        return match requests::read_decimal(line, from, to) {
+            Decimal::Number(budget) => is_room(line, to + 1, lent, budget),
             Decimal::Malformed => false,
         };
     }
@@ -336,11 +352,11 @@ fn is_evaluation(line: &[u8]) -> bool {
 }
 
 // ROOM SHEET of such a line, from a place on.
-fn is_room(line: &[u8], from: usize, budget: usize) -> bool {
+fn is_room(line: &[u8], from: usize, lent: usize, budget: usize) -> bool {
     let to = requests::field_end(line, from);
     if to < line.len() {
         return match requests::read_decimal(line, from, to) {
-            Decimal::Number(room) => is_evaluated(line, to + 1, budget, room),
+            Decimal::Number(room) => is_evaluated(line, to + 1, lent, budget, room),
             Decimal::Malformed => false,
         };
     }
@@ -348,7 +364,7 @@ fn is_room(line: &[u8], from: usize, budget: usize) -> bool {
 }
 
 // SHEET of such a line, from a place on.
-fn is_evaluated(line: &[u8], from: usize, budget: usize, room: usize) -> bool {
+fn is_evaluated(line: &[u8], from: usize, lent: usize, budget: usize, room: usize) -> bool {
     let mut sheet = [0u8; 70000];
     let to = requests::field_end(line, from);
     if to < line.len() {
@@ -356,24 +372,35 @@ fn is_evaluated(line: &[u8], from: usize, budget: usize, room: usize) -> bool {
     }
     match requests::read_hex(&mut sheet, line, from, to) {
         Hex::Bytes(n) => {
-            answer_evaluation(&sheet[..n], budget, room);
+            answer_evaluation(&sheet[..n], lent, budget, room);
             true
         }
         Hex::Malformed => false,
     }
 }
 
-// The answer to E BUDGET ROOM SHEET. No certificate is as long as 65,536 bytes, so that more room changes nothing.
-fn answer_evaluation(sheet: &[u8], budget: usize, room: usize) {
+// The answer to such a line. No certificate is as long as 65,536 bytes, so that more room changes nothing.
+fn answer_evaluation(sheet: &[u8], lent: usize, budget: usize, room: usize) {
     let mut out = [0u8; 65536];
     if room < 65536 {
-        return evaluate_into(&mut out[..room], sheet, budget);
+        return lend_tokens(&mut out[..room], sheet, lent, budget);
     }
-    evaluate_into(&mut out, sheet, budget)
+    lend_tokens(&mut out, sheet, lent, budget)
 }
 
-// The same, with an output of at most 65,536 bytes.
-fn evaluate_into(out: &mut [u8], sheet: &[u8], budget: usize)
+// The same, with an output of at most 65,536 bytes. The door asks for 11,264 tokens, so that more of them change nothing.
+fn lend_tokens(out: &mut [u8], sheet: &[u8], lent: usize, budget: usize)
+    requires { ⌜ length (now out) ≤ 65536 ⌝ }
+{
+    let mut tokens = [0u32; 11264];
+    if lent < 11264 {
+        return evaluate_into(&mut tokens[..lent], out, sheet, budget);
+    }
+    evaluate_into(&mut tokens, out, sheet, budget)
+}
+
+// The same, with the tokens' buffer.
+fn evaluate_into(tokens: &mut [u32], out: &mut [u8], sheet: &[u8], budget: usize)
     requires { ⌜ length (now out) ≤ 65536 ⌝ }
 {
     let mut listing = [0u32; 9220];
@@ -382,17 +409,16 @@ fn evaluate_into(out: &mut [u8], sheet: &[u8], budget: usize)
     let mut phrases = [0u32; 6144];
     let mut base = [0u32; 1088];
     let mut binds = [0u32; 16384];
-    let mut tokens = [0u32; 11264];
     match evaluator::evaluate(
+        sheet,
+        budget,
         &mut listing,
         &mut forms,
         &mut patterns,
         &mut phrases,
         &mut base,
         &mut binds,
-        &mut tokens,
-        sheet,
-        budget,
+        tokens,
         out,
     ) {
         Evaluated::Accepted(n, work, inferences) => accepted(&out[..n], work, inferences),

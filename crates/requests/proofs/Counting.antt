@@ -1,15 +1,14 @@
 -- Decimal digits read one after another: the answer from the start is the answer from here.
 use Prim.Native.Nat.{ℕ, suc, _+_, _*_, _-_, _/_, _≤_, _<_}
 use native.Mathlib.Omega.{arith}
-use mathlib.Core.Path.{_≡_, refl, sym, ap, _∙_}
-use mathlib.Core.Bool.{Bool, true, false, _&&_}
+use mathlib.Core.Path.{_≡_, refl, sym, _∙_}
+use mathlib.Core.Bool.{_&&_}
 use mathlib.Core.List.{List}
 use lib.ListN.{getD}
-use lib.Dec.{leb, ltb}
+use lib.Dec.{leb}
 use borrow.Author.Tests.{le-leb, lt-leb, lt-ltb, le-ltb}
 use Rattle.requests.specs.Fields.{pick, nibble}
 use Rattle.requests.specs.Decimals.{counted, decimal}
-use Rattle.requests.specs.declared.Decimal.{Decimal}
 use Rattle.requests.specs.declared.Decimal.the-variants.{Number, Malformed}
 
 -- the digits up to place i say v

@@ -9,7 +9,7 @@ use lib.Dec.{ltb, eqb}
 use borrow.Author.Tests.{lt-ltb, le-ltb, eq-eqb, ne-eqb, ltb-true}
 use Rattle.words.specs.Front.{front}
 use Rattle.words.proofs.Fronts.{front-put}
-use Rattle.requests.specs.Fields.{pick, pairAt, Decoded, decoded, decoding, field, told, Reads}
+use Rattle.requests.specs.Fields.{pick, pairAt, decoded, decoding, field, told, Reads}
 use Rattle.requests.specs.declared.Hex.{Hex}
 use Rattle.requests.specs.declared.Hex.the-variants.{Bytes, Malformed}
 

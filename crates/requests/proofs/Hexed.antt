@@ -1,9 +1,9 @@
 -- Bytes written in hexadecimal one after another: what is written stands at the front.
-use Prim.Native.Nat.{ℕ, suc, _+_, _*_, _/_, _%_, _≤_, _<_}
+use Prim.Native.Nat.{ℕ, _+_, _*_, _/_, _%_, _≤_, _<_}
 use native.Mathlib.Omega.{arith}
 use native.Mathlib.Numerals.{add-one}
 use mathlib.Core.Path.{_≡_, refl, sym, ap, _∙_}
-use mathlib.Core.List.{List, [], _∷_, _++_, append-assoc}
+use mathlib.Core.List.{List, [], _∷_, _++_}
 use lib.ListN.{length, getD, set, take, length-append, length-set}
 use lib.Seq.{take-suc, take-all, length-take-le}
 use Rattle.words.specs.Front.{front}
@@ -19,10 +19,6 @@ hex-long : (xs : List ℕ) → length (hexOf xs) ≡ 2 * length xs
 unfolding hexOf
 hex-long [] = refl
 hex-long (x ∷ xs) = let h = hex-long xs in omega arith
-
--- a place of a buffer is one of it after a store
-pub put-inside : (t : List ℕ) (i v j : ℕ) → j < length t → j < length (set t i v)
-put-inside t i v j h = let l = length-set t i v in omega arith
 
 -- i bytes are written, up to the place `at`
 pub record At (s t₀ t : List ℕ) (i at : ℕ) : Type 0 where

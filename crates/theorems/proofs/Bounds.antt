@@ -12,7 +12,8 @@ use Rattle.language.specs.Run.{Derived, lemmas, chained, refuted}
 use Rattle.language.specs.Derives.{Evaluates, is-prop, is-bound, is-con, is-rule, is-abstract, calls-con, calls-function, binds, matches}
 use Rattle.language.specs.Derives.{Derives, applies-rule, applies-method, assumes, supposes, lets, announces, in-steps, dmatches, by-value, by-lemma, no-more, and-then, last, step}
 use Rattle.theorems.specs.Demands.{nodes, nesting}
-use Rattle.theorems.proofs.Lists.{All, all-append, all-map}
+use Rattle.theorems.specs.Lists.{All}
+use Rattle.theorems.proofs.Lists.{all-append, all-map}
 
 -- an evaluation is work, and a deduction evaluates something
 pub evaluates-works : {fs : List Phrase} {n k w : ℕ} {e : Env} {v : Val} → Evaluates fs n e k v w → 1 ≤ w

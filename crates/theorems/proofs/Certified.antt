@@ -12,7 +12,8 @@ use Rattle.language.specs.Values.{Env}
 use Rattle.language.specs.Run.{Derived, lemmas, joined, chained, refuted}
 use Rattle.language.specs.Derives.{Derives, applies-rule, applies-method, assumes, supposes, lets, announces, in-steps, dmatches}
 use Rattle.language.specs.Derives.{by-value, by-lemma, no-more, and-then, last, step}
-use Rattle.theorems.proofs.Lists.{All, all-append, all-map}
+use Rattle.theorems.specs.Lists.{All}
+use Rattle.theorems.proofs.Lists.{all-append, all-map}
 use Rattle.theorems.proofs.Members.{_∈_, _⊆_, in-head, in-cons, cons-grows, members-grow}
 
 -- a larger base proves no less

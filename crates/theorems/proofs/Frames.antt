@@ -1,15 +1,15 @@
 -- What is read is read of bytes of its own: wherever those bytes stand, in a sheet that may have more before, the same is read.
-use Prim.Native.Nat.{ℕ, suc, _+_, _-_, _*_, _≤_, _<_}
+use Prim.Native.Nat.{ℕ, suc, _+_, _-_, _*_, _≤_}
 use native.Mathlib.Nat.{add-zero}
 use native.Mathlib.Omega.{arith}
-use mathlib.Core.Path.{_≡_, refl, sym, ap, _∙_}
+use mathlib.Core.Path.{_≡_, refl, sym, _∙_}
 use mathlib.Core.List.{List, [], _∷_, _++_}
 use mathlib.Core.Bool.{Bool, true, false, _&&_, and-eq-true-iff}
 use lib.ListN.{length, getD, length-append}
 use lib.Dec.{ltb, leb}
 use borrow.Author.Tests.{ltb-true, ltb-false, leb-true}
 use Rattle.language.specs.Numbers.{Got, got, no, then, check, pick, number, second, third, times, record-at}
-use Rattle.theorems.proofs.Reading.{got-then, got-check}
+use Rattle.theorems.proofs.Reading.{got-is, got-then}
 use Rattle.theorems.proofs.ReadBack.{Has, has-left, has-right, number-1, number-2, number-3}
 use Rattle.theorems.proofs.Spelling.{has-1, has-2, has-3, nothing-yet}
 use Rattle.theorems.proofs.Places.{has-within, has-join}
@@ -20,9 +20,6 @@ pub data Framed {A : Type 0} (R : ℕ → List ℕ → ℕ → Got A) (s : List 
   framed : {v : A} {next : ℕ} (xs : List ℕ) → Has s at xs → next ≡ at + length xs →
       ((o : ℕ) (t : List ℕ) (b : ℕ) → Has t b xs → R o t b ≡ got v (b + length xs)) → Framed R s at (got v next)
   refused : {n p : ℕ} → Framed R s at (no n p)
-
-got-is : {A : Type 0} {a b : A} {x y : ℕ} → a ≡ b → x ≡ y → got a x ≡ got b y
-got-is p q = cc
 
 module _ {A : Type 0} {s : List ℕ} {at : ℕ} where
   -- nothing more to read

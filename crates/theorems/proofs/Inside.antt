@@ -12,7 +12,8 @@ use Rattle.language.specs.Values.{Val, form, conV, ruleV, closure, Env, empty, 
 use Rattle.language.specs.Patterns.{joinFits, fits}
 use Rattle.language.specs.Run.{Derived, Argument, valuesOf, lemmas, chained}
 use Rattle.language.specs.Derives.{Bound, here, there, First, fit, pass, allForms}
-use Rattle.theorems.proofs.Lists.{All, all-append, all-map}
+use Rattle.theorems.specs.Lists.{All}
+use Rattle.theorems.proofs.Lists.{all-append, all-map}
 use Rattle.theorems.proofs.Members.{_∈_, _⊆_}
 use Rattle.theorems.proofs.Closed.{Closed}
 use Rattle.theorems.proofs.Listing.{Names, names-map}

@@ -11,7 +11,8 @@ use Rattle.language.specs.Numbers.{pick}
 use Rattle.language.specs.Plain.{Plain, infer, seq, under}
 use Rattle.language.specs.Run.{Derived}
 use Rattle.language.specs.Certificate.{listed, listedAll, needed, indexOf, listing}
-use Rattle.theorems.proofs.Lists.{All, all-map}
+use Rattle.theorems.specs.Lists.{All}
+use Rattle.theorems.proofs.Lists.{all-map}
 use Rattle.theorems.proofs.Members.{same-is, not-same, _∈_, _⊆_, not-in-nil, member-append, in-front, in-last}
 use Rattle.theorems.proofs.Closed.{Parts, Parts-in}
 
@@ -82,7 +83,7 @@ module _ (r : Form) where
       let n : same r p ≡ false = not-same r p (λ e. let z = ap size e in omega arith) in
       rw (member-append r m (p ∷ []), g, n)
 
-  listed-fresh : (p : Form) (l : List Form) → size p < size r → member r l ≡ false → member r (listed p l) ≡ false
+  pub listed-fresh : (p : Form) (l : List Form) → size p < size r → member r l ≡ false → member r (listed p l) ≡ false
   unfolding listed size
   listed-fresh (atom a) l s h = grown-fresh l l (atom a) (member (atom a) l) s h h
   listed-fresh verum l s h = grown-fresh l l verum (member verum l) s h h
@@ -186,14 +187,15 @@ orderly-snoc {l} p done h new = next (rw append-nil at h) (rw append-nil at new)
 orderly-snoc {l} p (next {ps = ps} {p = q} h new o) h′ new′ =
     next h new (orderly-snoc p o (rw append-assoc h′) (rw append-assoc new′))
 
-anything : (p : Form) → Unit {0} → Parts (λ q. Unit {0}) p
-anything (atom a) u = tt
-anything verum u = tt
-anything falsum u = tt
-anything (neg p) u = tt
-anything (bin c p q) u = (tt, tt)
+-- every proposition has parts of which nothing is asked
+pub any-parts : (p : Form) → Unit {0} → Parts (λ q. Unit {0}) p
+any-parts (atom a) u = tt
+any-parts verum u = tt
+any-parts falsum u = tt
+any-parts (neg p) u = tt
+any-parts (bin c p q) u = (tt, tt)
 
 pub listing-orderly : (d : Derived) → Orderly [] (listing d)
 listing-orderly d =
-    listing-ind (λ p. Unit {0}) anything (Orderly []) (λ l p o q h new. orderly-snoc p o h new) d
+    listing-ind (λ p. Unit {0}) any-parts (Orderly []) (λ l p o q h new. orderly-snoc p o h new) d
     (names-map (λ p. p ∈ listing d) (λ p. Unit {0}) (λ p h. tt) (d .proof) (listing-names d)) tt done

@@ -1,24 +1,28 @@
--- Every member of a list has G; and two constructors are never equal.
-use Prim.Native.Nat.{ℕ}
+-- Laws of `All`; and two constructors are never equal.
+use Prim.Native.Nat.{ℕ, zero, suc, _<_}
 use native.Mathlib.Omega.{arith}
 use mathlib.Core.Path.{_≡_}
 use mathlib.Core.List.{List, [], _∷_, _++_}
-use lib.ListN.{getD}
-
-module _ {A : Type 0} where
-  abbrev pub All : (A → Type 0) → List A → Type 0
-  All G [] = Unit {0}
-  All G (a ∷ l) = G a × All G l
+use lib.ListN.{length, getD}
+use Rattle.theorems.specs.Lists.{All}
 
 module _ {A : Type 0} (G : A → Type 0) where
   pub all-append : (l m : List A) → All G l → All G m → All G (l ++ m)
   all-append [] m h g = g
   all-append (a ∷ l) m h g = (h .0, all-append l m (h .1) g)
 
+  pub all-snoc : (l : List A) (a : A) → All G l → G a → All G (l ++ (a ∷ []))
+  all-snoc l a h g = all-append l (a ∷ []) h (g, tt)
+
   pub all-getD : (l : List A) (i : ℕ) (d : A) → All G l → G d → G (getD l i d)
   all-getD [] i d h g = g
-  all-getD (a ∷ l) ℕ.zero d h g = h .0
-  all-getD (a ∷ l) (ℕ.suc i) d h g = all-getD l i d (h .1) g
+  all-getD (a ∷ l) zero d h g = h .0
+  all-getD (a ∷ l) (suc i) d h g = all-getD l i d (h .1) g
+
+  pub all-at : (l : List A) (i : ℕ) (d : A) → All G l → i < length l → G (getD l i d)
+  all-at [] i d h low = absurd (omega arith)
+  all-at (a ∷ l) zero d h low = h .0
+  all-at (a ∷ l) (suc i) d h low = all-at l i d (h .1) (omega arith)
 
   pub all-map : (H : A → Type 0) → ((a : A) → G a → H a) → (l : List A) → All G l → All H l
   all-map H f [] h = tt

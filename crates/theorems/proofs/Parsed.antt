@@ -1,19 +1,19 @@
 -- Each record of a sheet is read of bytes of its own: a proposition, a pattern, a phrase, where the table of propositions may have more at its end.
 use Prim.Native.Nat.{ℕ, _≤_, _<_}
 use native.Mathlib.Omega.{arith}
-use mathlib.Core.Path.{_≡_, refl, sym, ap, _∙_}
-use mathlib.Core.List.{List, [], _∷_, _++_}
-use mathlib.Core.Bool.{Bool, true, false, _&&_, not}
+use mathlib.Core.Path.{_≡_, refl}
+use mathlib.Core.List.{List, [], _++_}
+use mathlib.Core.Bool.{true, false, _&&_, not}
 use lib.ListN.{length, getD, length-append, List·getD-append}
 use lib.Dec.{ltb, leb}
 use borrow.Author.Tests.{ltb-true, lt-ltb}
 use Rattle.language.specs.Form.{Conn, Form, conj, disj, cond, bicond, atom, verum, falsum, neg, bin}
 use Rattle.language.specs.Syntax.{Pattern, any, exactly, negP, binP, Clause, Phrase, expr, dedu, phraseAt}
 use Rattle.language.specs.Syntax.{prop, var, con, rule, abstract, function, method, call, bind, match, apply, assume, suppose, dlet, by, dmatch}
-use Rattle.language.specs.Numbers.{Got, got, no, then, check, number, from, below, times}
+use Rattle.language.specs.Numbers.{Got, got, no, then, from, below}
 use Rattle.language.specs.Read.{reference, propositionKinds, proposition, binders, parts, small, patternRef, patternKinds, pattern, isDeduction, phraseRef, exprRef, deduRef, fixed, pair, several, clause, clauses, blockOf, phraseKinds, phrase}
 use Rattle.theorems.proofs.Reading.{ensured, ensures-below}
-use Rattle.theorems.proofs.Frames.{Framed, framed, refused, on-got, on-check, from-here, on-then, framed-number, framed-times, Readers, no-more, and-then, framed-record}
+use Rattle.theorems.proofs.Frames.{Framed, refused, on-got, on-check, from-here, on-then, framed-number, framed-times, Readers, no-more, and-then, framed-record}
 
 -- a table of propositions with more at its end
 pub record Extends (ps qs : List Form) : Type 0 where

@@ -9,7 +9,8 @@ use Rattle.language.specs.Form.{Conn, Form, conj, disj, cond, bicond, atom, ver
 use Rattle.language.specs.Rules.{Ruled, gives, misshapen, provided, asBin, asNeg, table, ruled}
 use Rattle.language.specs.Syntax.{Phrase, expr, phraseAt, prop}
 use Rattle.language.specs.Run.{constructed}
-use Rattle.theorems.proofs.Lists.{All, all-getD, _&_, clash}
+use Rattle.theorems.specs.Lists.{All}
+use Rattle.theorems.proofs.Lists.{all-getD, _&_, clash}
 use Rattle.theorems.proofs.Members.{_∈_, _⊆_, in-head, in-cons}
 use Rattle.theorems.proofs.Closed.{Parts-in, Closed, Small, closed-cons, small-cons}
 

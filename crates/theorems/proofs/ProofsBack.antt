@@ -13,11 +13,11 @@ use Rattle.language.specs.Certificate.{references, proofBytes}
 use Rattle.language.specs.Check.{Node, ruleN, seqN, underN, plain, Counted, ruleNode, inner, node}
 use Rattle.theorems.specs.Demands.{nodes, nesting}
 use Rattle.theorems.proofs.Members.{_∈_}
-use Rattle.theorems.proofs.Reading.{got-then, got-check}
+use Rattle.theorems.proofs.Reading.{got-is, got-then, got-check}
 use Rattle.theorems.proofs.Checking.{Regular}
 use Rattle.theorems.proofs.ReadBack.{Has, has-left, has-right, byte-at, after-byte, from-number}
 use Rattle.theorems.proofs.Listing.{Names}
-use Rattle.theorems.proofs.RecordsBack.{got-is, ref, reference-at, references-at}
+use Rattle.theorems.proofs.RecordsBack.{ref, reference-at, references-at}
 
 counted-is : (N : Node) {i j x y : ℕ} → i ≡ j → x ≡ y →
     _≡_ {A = Got Counted} (got (record { node = N; nodes = i }) x) (got (record { node = N; nodes = j }) y)

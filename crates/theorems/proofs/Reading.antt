@@ -11,6 +11,9 @@ use Rattle.language.specs.Refusals.{out-of-range, wrong-reference}
 use Rattle.language.specs.Numbers.{Got, got, no, then, check, pick, number, from, below, times, record-at}
 use Rattle.theorems.proofs.Lists.{clash}
 
+pub got-is : {A : Type 0} {a b : A} {x y : ℕ} → a ≡ b → x ≡ y → got a x ≡ got b y
+got-is p q = cc
+
 -- the value and the next place that g gives, if it gives any, have G
 pub data Ensures {A : Type 0} (G : A → ℕ → Type 0) : Got A → Type 0 where
   given : {a : A} {at : ℕ} → G a at → Ensures G (got a at)

@@ -8,15 +8,12 @@ use Rattle.language.specs.Form.{Conn, Form, conj, disj, cond, bicond, atom, ver
 use Rattle.language.specs.Numbers.{got, then, groups, below, times, record-at}
 use Rattle.language.specs.Read.{reference, propositionKinds, proposition}
 use Rattle.language.specs.Certificate.{indexOf, connKind, recordOf, records, references}
-use Rattle.theorems.proofs.Lists.{All}
+use Rattle.theorems.specs.Lists.{All}
 use Rattle.theorems.proofs.Members.{_∈_, in-back, in-head}
 use Rattle.theorems.proofs.Closed.{Parts-in, Small}
-use Rattle.theorems.proofs.Reading.{got-then}
+use Rattle.theorems.proofs.Reading.{got-is, got-then}
 use Rattle.theorems.proofs.ReadBack.{Has, has-left, has-right, number-at, byte-at, after-byte, from-number, below-number}
 use Rattle.theorems.proofs.Listing.{found, Orderly, done, next}
-
-pub got-is : {A : Type 0} {a b : A} {x y : ℕ} → a ≡ b → x ≡ y → got a x ≡ got b y
-got-is p q = cc
 
 -- the bytes of a reference
 abbrev pub ref : List Form → Form → List ℕ

@@ -21,11 +21,11 @@ use Rattle.theorems.specs.Demands.{Checks-exactly, nodes, nesting}
 use Rattle.theorems.proofs.Lists.{clash}
 use Rattle.theorems.proofs.Members.{_∈_}
 use Rattle.theorems.proofs.Closed.{Small}
-use Rattle.theorems.proofs.Reading.{got-then, got-check}
+use Rattle.theorems.proofs.Reading.{got-is, got-then, got-check}
 use Rattle.theorems.proofs.Checking.{Regular, checks-exactly}
 use Rattle.theorems.proofs.ReadBack.{Has, has-all, has-left, has-right, number-at, from-number}
 use Rattle.theorems.proofs.Listing.{found, Names, Orderly, listing-orderly, listing-names, listing-concludes}
-use Rattle.theorems.proofs.RecordsBack.{got-is, ref, index-at, records-at}
+use Rattle.theorems.proofs.RecordsBack.{ref, index-at, records-at}
 use Rattle.theorems.proofs.ProofsBack.{placed, plain-placed, node-at}
 
 -- the certificate that is read where the listing l, the proof D and the conclusion p were written

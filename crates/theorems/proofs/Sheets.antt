@@ -12,7 +12,8 @@ use Rattle.language.specs.Syntax.{Pattern, Clause, function, method, Phrase, ex
 use Rattle.language.specs.Syntax.{Expression, prop, var, con, rule, abstract, call, bind, match, apply, assume, suppose, dlet, by, dmatch}
 use Rattle.language.specs.Numbers.{Got, got, then, from, times}
 use Rattle.language.specs.Read.{reference, propositionKinds, proposition, pattern, phraseRef, exprRef, deduRef, fixed, pair, several, clauses, blockOf, phraseKinds, phrase, sheet}
-use Rattle.theorems.proofs.Lists.{All, all-append, all-getD, _&_}
+use Rattle.theorems.specs.Lists.{All}
+use Rattle.theorems.proofs.Lists.{all-append, all-getD, _&_}
 use Rattle.theorems.proofs.Members.{_∈_, not-in-nil, getD-in}
 use Rattle.theorems.proofs.Closed.{Parts-in, Closed, Small, closed-snoc, small-snoc}
 use Rattle.theorems.proofs.Reading.{Ensures, given, refused, ensure, ensures-map, ensures-check, ensures-then, whatever, ensures-from, ensures-below, ensures-times, ensures-record}

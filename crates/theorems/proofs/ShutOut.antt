@@ -28,14 +28,14 @@ counts-determined E F e f s S end budget room bytes w i reads small h =
     f s S end budget room bytes w i reads small .1 (e s S end budget room bytes w i reads small .0 h)
 
 -- what C1's sheet says, and what its first step derives
-abbrev sheet-of : Got Sheet → Sheet
+abbrev pub sheet-of : Got Sheet → Sheet
 sheet-of (got S end) = S
 sheet-of (no n p) = record { props = []; patterns = []; phrases = []; base = []; root = 0 }
 
-abbrev S₁ : Sheet
+abbrev pub S₁ : Sheet
 S₁ = sheet-of (sheet c1)
 
-c1-reads : sheet c1 ≡ got S₁ 43
+pub c1-reads : sheet c1 ≡ got S₁ 43
 unfolding sheet
 c1-reads = refl
 
@@ -43,10 +43,10 @@ c1-accepted : answer c1 11 24 ≡ accepted c1-certificate 11 3
 unfolding answer
 c1-accepted = refl
 
-abbrev first : Derived
+abbrev pub first : Derived
 first = derived (atom 0) (infer 5 (bin conj (atom 0) (atom 1) ∷ []))
 
-first-derived : Derives (S₁ .phrases) 63 empty (S₁ .base) 6 first 3
+pub first-derived : Derives (S₁ .phrases) 63 empty (S₁ .base) 6 first 3
 unfolding sheet deduce Deduces-exactly
 first-derived =
     let (u, x, e) = interpreted (S₁ .phrases) 63 empty (S₁ .base) 6 3 0 first .0 refl in

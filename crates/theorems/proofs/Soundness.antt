@@ -8,7 +8,8 @@ use lib.ListN.{getD}
 use Rattle.language.specs.Form.{Conn, Form, atom, verum, falsum, neg, bin, same, sameConn, members, State, joins, holds, holdsAll}
 use Rattle.language.specs.Rules.{Ruled, gives, misshapen, provided, asBin, asNeg, table, ruled}
 use Rattle.language.specs.Plain.{Plain, Proves, by-rule, in-turn, assuming}
-use Rattle.theorems.proofs.Lists.{All, all-getD, _&_}
+use Rattle.theorems.specs.Lists.{All}
+use Rattle.theorems.proofs.Lists.{all-getD, _&_}
 use Rattle.theorems.proofs.Members.{same-is, sameConn-is, _∈_, not-in-nil, cons-cases, members-one}
 
 infixr 20 _⇒_

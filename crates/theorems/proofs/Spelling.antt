@@ -29,9 +29,10 @@ more {s} {at} xs w l = by-back (w .back) (w .whole)
 pub nothing-yet : (s : List ℕ) (at : ℕ) → at ≤ length s → Has s at []
 nothing-yet s at h = record { front = take at s; back = drop at s; whole = sym (take-append-drop at s); place = sym (length-take-le at s h) }
 
-groups-1 : (a : ℕ) → a < 128 → groups a ≡ a ∷ []
+-- a small number is one byte
+pub one-group : (a : ℕ) → a < 128 → groups a ≡ a ∷ []
 unfolding groups pick
-groups-1 a h = simp (lt-ltb a 128 h)
+one-group a h = simp (lt-ltb a 128 h)
 
 low-bits : (a b : ℕ) → 128 ≤ a → a < 256 → 128 + (a - 128 + 128 * b) % 128 ≡ a
 low-bits a b g h = omega arith
@@ -115,5 +116,5 @@ module _ (s : List ℕ) (bytes : (i : ℕ) → getD s i 0 < 256) (at : ℕ) wher
       ensures-pick (ltb a 128)
       (λ t.
       let h = ltb-true a 128 t in
-      given (spelled a (a ∷ []) (groups-1 a h) (omega arith) (has-1 s at (ltb-true at (length s) l))))
+      given (spelled a (a ∷ []) (one-group a h) (omega arith) (has-1 s at (ltb-true at (length s) l))))
       (λ t. second-spells (ltb-false a 128 t))

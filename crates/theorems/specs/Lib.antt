@@ -1,3 +1,4 @@
+pub mod Lists
 pub mod Demands
 pub mod Growth
 pub mod Wrong

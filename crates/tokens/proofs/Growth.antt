@@ -1,11 +1,9 @@
 -- What tokens tell stays true while the table grows; lemmas before a proof are one proof.
-use mathlib.Core.Path.{_≡_, refl, sym, ap, _∙_}
 use mathlib.Core.List.{List, [], _∷_, _++_}
 use Prim.Native.Nat.{ℕ}
 use Rattle.language.specs.Form.{Form}
 use Rattle.language.specs.Plain.{Plain, infer, seq, under}
-use Rattle.language.specs.Run.{Derived, chained}
-use Rattle.bindings.specs.Stands.{Is}
+use Rattle.language.specs.Run.{Derived}
 use Rattle.bindings.proofs.Chains.{is-more}
 use Rattle.tokens.specs.Tells.{Names, Tells, TellsLemmas}
 

@@ -193,6 +193,8 @@ fn evaluate(sheet: &[u8], budget: usize, print: bool, keep: usize) {
     let mut tokens = [0u32; 11264];
     let mut out = [0u8; CERTIFICATE];
     let evaluated = evaluator::evaluate(
+        sheet,
+        budget,
         &mut listing,
         &mut forms,
         &mut patterns,
@@ -200,8 +202,6 @@ fn evaluate(sheet: &[u8], budget: usize, print: bool, keep: usize) {
         &mut base,
         &mut binds,
         &mut tokens,
-        sheet,
-        budget,
         &mut out,
     );
     told_evaluation(sheet, &out, evaluated, print, keep)
@@ -290,13 +290,13 @@ fn check(sheet: &[u8], certificate: &[u8], print: bool) {
     let mut phrases = [0u32; 6144];
     let mut base = [0u32; 576];
     let checked = checker::check(
+        sheet,
+        certificate,
         &mut names,
         &mut forms,
         &mut patterns,
         &mut phrases,
         &mut base,
-        sheet,
-        certificate,
     );
     told(sheet, certificate, checked);
     if print {

@@ -1,11 +1,11 @@
 -- Answers put together: one text after another, by the tests on the way.
 use Prim.Native.Nat.{ℕ, _+_, _-_, _≤_, _<_}
-use mathlib.Core.Path.{_≡_, refl, sym, ap, _∙_}
-use mathlib.Core.List.{List, [], _∷_, _++_, append-nil}
-use lib.ListN.{length, getD, take, drop}
-use lib.Dec.{ltb, leb}
+use mathlib.Core.Path.{_≡_, _∙_}
+use mathlib.Core.List.{List, _++_, append-nil}
+use lib.ListN.{length, take, drop}
+use lib.Dec.{ltb}
 use borrow.Author.Tests.{lt-ltb, le-ltb, le-leb, lt-leb}
-use Rattle.wording.specs.Page.{Page, page, pick, write}
+use Rattle.wording.specs.Page.{Page, pick, write}
 use Rattle.wording.specs.Text.{text, listed}
 use Rattle.wording.specs.Answers.{refusedText, dotsText, hereText, aroundText, sheetText, certificateText, fallsText, failsText}
 use Rattle.wording.proofs.Writing.{both}

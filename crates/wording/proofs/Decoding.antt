@@ -1,22 +1,21 @@
 -- Decimal bytes read character by character: the answer from the start is the answer from here, and what was read stands at the front.
-use Prim.Native.Nat.{ℕ, suc, _+_, _-_, _*_, _≤_, _<_}
+use Prim.Native.Nat.{ℕ, _+_, _-_, _≤_, _<_}
 use native.Mathlib.Omega.{arith}
 use native.Mathlib.Numerals.{add-one}
 use mathlib.Core.Path.{_≡_, refl, sym, ap, _∙_}
-use mathlib.Core.List.{List, [], _∷_, _++_, append-nil}
+use mathlib.Core.List.{List, [], _∷_, _++_}
 use mathlib.Core.Bool.{Bool, true, false}
-use lib.ListN.{length, getD, set, drop, length-append, drop-of-length-le, List·getD-append}
+use lib.ListN.{length, getD, drop, length-append, drop-of-length-le, List·getD-append}
 use lib.Seq.{drop-cons, sets, getD-append-seam}
 use lib.Dec.{ltb, leb, eqb}
-use borrow.Author.Tests.{lt-ltb, le-ltb, le-leb, lt-leb, eq-eqb, ne-eqb, ltb-true}
+use borrow.Author.Tests.{le-leb, lt-leb, eq-eqb, ne-eqb, ltb-true}
 use Rattle.words.specs.Front.{front}
 use Rattle.words.proofs.Runs.{front-run}
 use Rattle.wording.specs.Page.{pick}
-use Rattle.wording.specs.declared.Decoded.{Decoded}
 use Rattle.wording.specs.declared.Decoded.the-variants.{Bytes, Wrong, Long}
 use Rattle.wording.specs.declared.decimals.Step.{Step}
 use Rattle.wording.specs.declared.decimals.Step.the-variants as step
-use Rattle.wording.specs.Decimals.{white, grown, Turn, on, wrong, full, ended, digit, other, turn, Reading, turned, scan, decoded, Reads, more, stepOf, Small}
+use Rattle.wording.specs.Decimals.{white, grown, Turn, on, wrong, full, ended, digit, other, turn, Reading, turned, scan, decoded, Reads, more, stepOf}
 
 -- white space, by the tests on the way
 module _ (room : Bool) (n v : ℕ) where

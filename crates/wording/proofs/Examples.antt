@@ -1,13 +1,12 @@
 -- The texts at some values, in full: what the definitions and the templates make of them.
-use Prim.Native.Nat.{ℕ}
 use mathlib.Core.Path.{_≡_, refl}
-use mathlib.Core.List.{List, [], _∷_}
+use mathlib.Core.List.{[], _∷_}
 use Rattle.wording.specs.Page.{pick}
 use Rattle.wording.specs.Text.{text, digits, decimal, listed, past, upTo, after, piece}
 use Rattle.wording.specs.Tables.{refusals, constructors, rules, kinds, troubles}
 use Rattle.wording.specs.Templates.{paired, named, told, part, filled}
 use Rattle.wording.specs.Answers.{acceptedText, standsText, refusedText, dotsText, hereText, aroundText, sheetText, firstAt, operand, factsOf, phraseText, troubleText}
-use Rattle.wording.specs.Decimals.{white, grown, ended, digit, other, turn, turned, scan, decoded, Reading}
+use Rattle.wording.specs.Decimals.{white, grown, ended, digit, other, turn, turned, scan, decoded}
 use Rattle.wording.specs.declared.Decoded.the-variants.{Bytes, Wrong, Long}
 
 pub record Examples : Type 0 where

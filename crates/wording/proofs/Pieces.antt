@@ -2,15 +2,15 @@
 use Prim.Native.Nat.{ℕ, zero, suc, _+_, _-_, _≤_, _<_}
 use native.Mathlib.Numerals.{add-one}
 use native.Mathlib.Omega.{arith}
-use mathlib.Core.Path.{_≡_, refl, sym, ap, _∙_}
-use mathlib.Core.List.{List, [], _∷_, _++_}
+use mathlib.Core.Path.{_≡_, refl, sym, _∙_}
+use mathlib.Core.List.{List, []}
 use mathlib.Core.Bool.{Bool, true, false}
 use lib.ListN.{length, getD, drop, drop-of-length-le}
 use lib.Seq.{drop-cons}
 use lib.Dec.{eqb}
 use borrow.Author.Tests.{eq-eqb, ne-eqb}
-use Rattle.wording.specs.Page.{Page, page, pick, stroke, write}
-use Rattle.wording.specs.Text.{past, upTo, after, piece}
+use Rattle.wording.specs.Page.{page, pick, stroke, write}
+use Rattle.wording.specs.Text.{past, upTo, after}
 
 after-none : (k : ℕ) → after k [] ≡ []
 unfolding after past

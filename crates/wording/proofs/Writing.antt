@@ -8,7 +8,7 @@ use lib.ListN.{length, set, length-set}
 use lib.Seq.{sets}
 use borrow.Author.Tests.{lt-ltb, le-ltb}
 use Rattle.wording.specs.Page.{Page, page, pick, stroke, write}
-use Rattle.wording.specs.Text.{digits, decimal}
+use Rattle.wording.specs.Text.{digits}
 
 pub write-append : (xs ys : List ℕ) (p : Page) → write (xs ++ ys) p ≡ write ys (write xs p)
 unfolding write

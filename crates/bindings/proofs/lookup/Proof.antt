@@ -19,37 +19,29 @@ Inv-loop t env k e₀ i₀ e i = Linked t e × (found t env k ≡ found t e i)
 abbrev μ-loop : tie.MeasureT-loop
 μ-loop t env k e₀ i₀ e i = i
 
--- src/lib.rt:73:5
 loop-holds : tie.Need-loop-holds Inv-loop μ-loop
 loop-holds c = (c .before .pre, refl)
 
--- src/lib.rt:74:25
 sub-load : tie.Need-sub-load Inv-loop μ-loop
 sub-load c = search needs
 
--- src/lib.rt:74:13
 load-requires : tie.Need-load-requires Inv-loop μ-loop
 load-requires c κs = linked-low _ _ (c .before .loop .inv .0) (c .loop-test .taken)
 
--- src/lib.rt:77:13
 returns : tie.Need-returns Inv-loop μ-loop
 returns c = ap (λ (b : Binding). Bound (b .value)) (c .before .load .ensures) ∙ found-here _ _ _ (c .before .before .loop-test .taken) (c .if1 .taken) ∙ sym (c .before .before .before .loop .inv .1)
 
--- src/lib.rt:80:13
 sub-i : tie.Need-sub-i Inv-loop μ-loop
 sub-i c = search needs
 
--- src/lib.rt:73:5
 loop-less : tie.Need-loop-less Inv-loop μ-loop
 loop-less c = search needs
 
--- src/lib.rt:73:5
 loop-again : tie.Need-loop-again Inv-loop μ-loop
 loop-again c =
     rw (c .before .load .ensures)
     (linked-on _ _ (c .before .before .before .loop .inv .0) (c .before .before .loop-test .taken), c .before .before .before .loop .inv .1 ∙ found-on _ _ _ (c .before .before .loop-test .taken) (c .if1 .left))
 
--- src/lib.rt:67:1
 returns-2 : tie.Need-returns-2 Inv-loop μ-loop
 returns-2 c = found-end _ _ _ (c .loop-test .left) ∙ sym (c .before .loop .inv .1)
 

@@ -17,16 +17,31 @@ emit-records-requires : tie.Need-emit-records-requires
 emit-records-requires c κs = recording _ _ _ _ _ _ _ _ _ _ _ (c .before .before .before .emit-number .ensures) (c .before .before .before .before .before .before .before .before .before .pre)
 
 emit-proof-requires : tie.Need-emit-proof-requires
-emit-proof-requires c κs = proving _ _ _ _ _ _ _ _ _ _ _ (c .before .before .before .before .before .before .before .emit-number .ensures) _ _ (c .before .before .before .emit-records .ensures) (c .before .before .before .before .before .before .before .before .before .before .before .before .before .pre)
+emit-proof-requires c κs =
+    let start = c .before .before .before .before .before .before .before .before .before .before .before .before .before in
+    let emit-number = c .before .before .before .before .before .before .before .emit-number in
+    proving _ _ _ _ _ _ _ _ _ _ _ (emit-number .ensures) _ _ (c .before .before .before .emit-records .ensures) (start .pre)
 
 emit-place-requires : tie.Need-emit-place-requires
-emit-place-requires c κs = conclusion-fits _ _ _ _ _ _ _ _ _ _ _ (c .before .before .before .before .before .before .before .before .before .before .before .emit-number .ensures) _ _ (c .before .before .before .before .before .before .before .emit-records .ensures) _ _ (c .before .before .before .emit-proof .ensures) (c .before .before .before .before .before .before .before .before .before .before .before .before .before .before .before .before .before .pre)
+emit-place-requires c κs =
+    let start = c .before .before .before .before .before .before .before .before .before .before .before .before .before .before .before .before .before in
+    let emit-number = c .before .before .before .before .before .before .before .before .before .before .before .emit-number in
+    let emit-records = c .before .before .before .before .before .before .before .emit-records in
+    conclusion-fits _ _ _ _ _ _ _ _ _ _ _ (emit-number .ensures) _ _ (emit-records .ensures) _ _ (c .before .before .before .emit-proof .ensures) (start .pre)
 
 same-length : tie.Need-same-length
-same-length c = c .before .before .emit-place .kept .0 ∙ c .before .before .before .before .before .before .emit-proof .kept .0 ∙ c .before .before .before .before .before .before .before .before .before .before .emit-records .kept .0 ∙ c .before .before .before .before .before .before .before .before .before .before .before .before .before .before .emit-number .kept .0
+same-length c =
+    let emit-number = c .before .before .before .before .before .before .before .before .before .before .before .before .before .before .emit-number in
+    let emit-records = c .before .before .before .before .before .before .before .before .before .before .emit-records in
+    let emit-proof = c .before .before .before .before .before .before .emit-proof in
+    c .before .before .emit-place .kept .0 ∙ emit-proof .kept .0 ∙ emit-records .kept .0 ∙ emit-number .kept .0
 
 returns : tie.Need-returns
-returns c = emits _ _ _ _ _ _ _ _ _ _ _ (c .before .before .before .before .before .before .before .before .before .before .before .before .before .before .emit-number .ensures) _ _ (c .before .before .before .before .before .before .before .before .before .before .emit-records .ensures) _ _ (c .before .before .before .before .before .before .emit-proof .ensures) _ _ (c .before .before .emit-place .ensures)
+returns c =
+    let emit-number = c .before .before .before .before .before .before .before .before .before .before .before .before .before .before .emit-number in
+    let emit-records = c .before .before .before .before .before .before .before .before .before .before .emit-records in
+    let emit-proof = c .before .before .before .before .before .before .emit-proof in
+    emits _ _ _ _ _ _ _ _ _ _ _ (emit-number .ensures) _ _ (emit-records .ensures) _ _ (emit-proof .ensures) _ _ (c .before .before .emit-place .ensures)
 
 pub emit-spec : {M : Type 1} → statement M
 emit-spec =

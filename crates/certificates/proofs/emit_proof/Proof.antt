@@ -24,7 +24,9 @@ at-requires : tie.Need-at-requires Inv-loop μ-loop
 at-requires c κs = search needs
 
 emit-place-requires : tie.Need-emit-place-requires Inv-loop μ-loop
-emit-place-requires c κs = place-fits _ _ _ _ _ _ _ _ _ _ (c .before .before .before .before .loop .inv) (c .before .before .before .loop-test .taken) (c .before .before .if1 .taken) _ (c .at .ensures) (c .before .before .before .before .before .before .before .before .pre)
+emit-place-requires c κs =
+    let start = c .before .before .before .before .before .before .before .before in
+    place-fits _ _ _ _ _ _ _ _ _ _ (c .before .before .before .before .loop .inv) (c .before .before .before .loop-test .taken) (c .before .before .if1 .taken) _ (c .at .ensures) (start .pre)
 
 sub-left : tie.Need-sub-left Inv-loop μ-loop
 sub-left c = search needs
@@ -36,7 +38,10 @@ loop-less : tie.Need-loop-less Inv-loop μ-loop
 loop-less c = search needs
 
 loop-again : tie.Need-loop-again Inv-loop μ-loop
-loop-again c = proofs-name _ _ _ _ _ _ _ _ _ _ (c .before .before .before .before .before .before .before .loop .inv) (c .before .before .before .before .before .before .loop-test .taken) (c .before .before .before .before .before .if1 .taken) _ (c .before .before .before .at .ensures) _ _ (c .before .before .emit-place .ensures)
+loop-again c =
+    let loop = c .before .before .before .before .before .before .before .loop in
+    let loop-test = c .before .before .before .before .before .before .loop-test in
+    proofs-name _ _ _ _ _ _ _ _ _ _ (loop .inv) (loop-test .taken) (c .before .before .before .before .before .if1 .taken) _ (c .before .before .before .at .ensures) _ _ (c .before .before .emit-place .ensures)
 
 head-of-requires : tie.Need-head-of-requires Inv-loop μ-loop
 head-of-requires c κs = let p = c .before .before .before .before .before .before .pre .short in search needs
@@ -51,7 +56,12 @@ loop-less-2 : tie.Need-loop-less-2 Inv-loop μ-loop
 loop-less-2 c = let w = c .before .before .before .before .before .head-of .ensures in search needs
 
 loop-again-2 : tie.Need-loop-again-2 Inv-loop μ-loop
-loop-again-2 c = proofs-head _ _ _ _ _ _ _ _ _ _ (c .before .before .before .before .before .before .before .before .loop .inv) (c .before .before .before .before .before .before .before .loop-test .taken) (c .before .before .before .before .before .before .if1 .left) _ (c .before .before .before .before .before .head-of .ensures .0) (c .before .before .before .before .before .head-of .ensures .2) _ _ (c .before .before .before .emit-head .ensures)
+loop-again-2 c =
+    let loop = c .before .before .before .before .before .before .before .before .loop in
+    let loop-test = c .before .before .before .before .before .before .before .loop-test in
+    let if1 = c .before .before .before .before .before .before .if1 in
+    let head-of = c .before .before .before .before .before .head-of in
+    proofs-head _ _ _ _ _ _ _ _ _ _ (loop .inv) (loop-test .taken) (if1 .left) _ (head-of .ensures .0) (head-of .ensures .2) _ _ (c .before .before .before .emit-head .ensures)
 
 same-length : tie.Need-same-length Inv-loop μ-loop
 same-length c = c .before .loop .inv .long

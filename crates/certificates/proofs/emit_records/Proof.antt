@@ -29,7 +29,9 @@ at-requires-2 : tie.Need-at-requires-2 Inv-loop μ-loop
 at-requires-2 c κs = search needs
 
 emit-record-requires : tie.Need-emit-record-requires Inv-loop μ-loop
-emit-record-requires c κs = record-fits _ _ _ _ _ _ _ _ _ _ (c .before .before .before .before .loop .inv) (c .before .before .before .loop-test .taken) _ (c .before .before .at .ensures) _ (c .at2 .ensures) (c .before .before .before .before .before .before .before .before .pre)
+emit-record-requires c κs =
+    let start = c .before .before .before .before .before .before .before .before in
+    record-fits _ _ _ _ _ _ _ _ _ _ (c .before .before .before .before .loop .inv) (c .before .before .before .loop-test .taken) _ (c .before .before .at .ensures) _ (c .at2 .ensures) (start .pre)
 
 add-i : tie.Need-add-i Inv-loop μ-loop
 add-i c = let x = c .before .before .before .before .before .before .before .before .before .before .before .pre in let f = few _ _ _ _ _ _ (x .ready) in let r = x .ready .marked .rest in let k = x .ready .count in search needs
@@ -38,7 +40,10 @@ loop-less : tie.Need-loop-less Inv-loop μ-loop
 loop-less c = search needs
 
 loop-again : tie.Need-loop-again Inv-loop μ-loop
-loop-again c = records-more _ _ _ _ _ _ _ _ _ _ (c .before .before .before .before .before .before .before .loop .inv) (c .before .before .before .before .before .before .loop-test .taken) _ (c .before .before .before .before .before .at .ensures) _ (c .before .before .before .at2 .ensures) _ _ (c .before .before .emit-record .ensures)
+loop-again c =
+    let loop = c .before .before .before .before .before .before .before .loop in
+    let loop-test = c .before .before .before .before .before .before .loop-test in
+    records-more _ _ _ _ _ _ _ _ _ _ (loop .inv) (loop-test .taken) _ (c .before .before .before .before .before .at .ensures) _ (c .before .before .before .at2 .ensures) _ _ (c .before .before .emit-record .ensures)
 
 same-length : tie.Need-same-length Inv-loop μ-loop
 same-length c = c .before .loop .inv .long

@@ -23,7 +23,9 @@ at-requires : tie.Need-at-requires Inv-loop μ-loop
 at-requires c κs = search needs
 
 list-requires : tie.Need-list-requires Inv-loop μ-loop
-list-requires c κs = name-listable _ _ _ _ _ _ _ _ _ _ (c .before .before .before .before .loop .inv) (c .before .before .before .loop-test .taken) (c .before .before .if1 .taken) _ (c .at .ensures) (c .before .before .before .before .before .before .before .before .pre)
+list-requires c κs =
+    let start = c .before .before .before .before .before .before .before .before in
+    name-listable _ _ _ _ _ _ _ _ _ _ (c .before .before .before .before .loop .inv) (c .before .before .before .loop-test .taken) (c .before .before .if1 .taken) _ (c .at .ensures) (start .pre)
 
 sub-left : tie.Need-sub-left Inv-loop μ-loop
 sub-left c = search needs
@@ -35,7 +37,10 @@ loop-less : tie.Need-loop-less Inv-loop μ-loop
 loop-less c = search needs
 
 loop-again : tie.Need-loop-again Inv-loop μ-loop
-loop-again c = needing-name _ _ _ _ _ _ _ _ _ _ (c .before .before .before .before .before .before .before .loop .inv) (c .before .before .before .before .before .before .loop-test .taken) (c .before .before .before .before .before .if1 .taken) _ (c .before .before .before .at .ensures) _ _ (c .before .before .list .kept .0) (c .before .before .list .ensures)
+loop-again c =
+    let loop = c .before .before .before .before .before .before .before .loop in
+    let loop-test = c .before .before .before .before .before .before .loop-test in
+    needing-name _ _ _ _ _ _ _ _ _ _ (loop .inv) (loop-test .taken) (c .before .before .before .before .before .if1 .taken) _ (c .before .before .before .at .ensures) _ _ (c .before .before .list .kept .0) (c .before .before .list .ensures)
 
 head-of-requires : tie.Need-head-of-requires Inv-loop μ-loop
 head-of-requires c κs = let p = c .before .before .before .before .before .before .pre .short in search needs

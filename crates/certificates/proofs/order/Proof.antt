@@ -17,13 +17,19 @@ list-needed-requires : tie.Need-list-needed-requires
 list-needed-requires c κs = telling _ _ _ _ _ _ _ (c .before .before .before .wipe .ensures) (c .before .before .before .wipe .kept .0) (c .before .before .before .before .before .before .before .before .pre)
 
 list-requires : tie.Need-list-requires
-list-requires c κs = concluding _ _ _ _ _ _ _ (c .before .before .before .before .before .before .before .wipe .ensures) (c .before .before .before .before .before .before .before .wipe .kept .0) _ _ (c .before .before .before .list-needed .ensures) (c .before .before .before .before .before .before .before .before .before .before .before .before .pre)
+list-requires c κs =
+    let start = c .before .before .before .before .before .before .before .before .before .before .before .before in
+    let wipe = c .before .before .before .before .before .before .before .wipe in
+    concluding _ _ _ _ _ _ _ (wipe .ensures) (wipe .kept .0) _ _ (c .before .before .before .list-needed .ensures) (start .pre)
 
 same-length : tie.Need-same-length
 same-length c = c .before .before .list .kept .0 ∙ c .before .before .before .before .before .before .list-needed .kept .0 ∙ c .before .before .before .before .before .before .before .before .before .before .wipe .kept .0
 
 returns : tie.Need-returns
-returns c = orders _ _ _ _ _ _ _ (c .before .before .before .before .before .before .before .before .before .before .wipe .ensures) (c .before .before .before .before .before .before .before .before .before .before .wipe .kept .0) _ _ (c .before .before .before .before .before .before .list-needed .ensures) _ _ (c .before .before .list .ensures)
+returns c =
+    let wipe = c .before .before .before .before .before .before .before .before .before .before .wipe in
+    let list-needed = c .before .before .before .before .before .before .list-needed in
+    orders _ _ _ _ _ _ _ (wipe .ensures) (wipe .kept .0) _ _ (list-needed .ensures) _ _ (c .before .before .list .ensures)
 
 pub order-spec : {M : Type 1} → statement M
 order-spec =

@@ -15,7 +15,10 @@ emit-requires : tie.Need-emit-requires
 emit-requires c κs = measuring _ _ _ _ _ _ _ _ (c .before .before .before .before .order .ensures) _ (c .before .before .before .before .before .before .before .before .before .before .pre)
 
 emit-requires-2 : tie.Need-emit-requires-2
-emit-requires-2 c κs = writing _ _ _ _ _ _ _ _ (c .before .before .before .before .before .before .before .before .before .before .order .ensures) _ _ _ (c .before .before .before .before .before .emit .ensures) (c .before .before .if1 .taken) (c .before .before .before .before .before .before .before .before .before .before .before .before .before .before .before .before .pre)
+emit-requires-2 c κs =
+    let start = c .before .before .before .before .before .before .before .before .before .before .before .before .before .before .before .before in
+    let order = c .before .before .before .before .before .before .before .before .before .before .order in
+    writing _ _ _ _ _ _ _ _ (order .ensures) _ _ _ (c .before .before .before .before .before .emit .ensures) (c .before .before .if1 .taken) (start .pre)
 
 same-length : tie.Need-same-length
 same-length c = search needs
@@ -24,7 +27,10 @@ same-length-2 : tie.Need-same-length-2
 same-length-2 c = search needs
 
 returns : tie.Need-returns
-returns c = written _ _ _ _ _ _ _ _ (c .before .before .before .before .before .before .before .before .before .before .before .before .before .order .ensures) _ _ _ (c .before .before .before .before .before .before .before .before .emit .ensures) (c .before .before .before .before .before .if1 .taken) _ _ (c .before .before .emit2 .ensures)
+returns c =
+    let order = c .before .before .before .before .before .before .before .before .before .before .before .before .before .order in
+    let emit = c .before .before .before .before .before .before .before .before .emit in
+    written _ _ _ _ _ _ _ _ (order .ensures) _ _ _ (emit .ensures) (c .before .before .before .before .before .if1 .taken) _ _ (c .before .before .emit2 .ensures)
 
 same-length-3 : tie.Need-same-length-3
 same-length-3 c = search needs

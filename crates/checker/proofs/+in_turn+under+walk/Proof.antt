@@ -65,8 +65,10 @@ in-turn-enum-known-p t c = search needs
 
 in-turn-put-requires : (t : ℕ) → in-turn-lts.Need-put-requires (walk-below t, walk.Post, put-reads.Asked, put-reads.Learnt) (in-turn-at t) in-turn.Post
 in-turn-put-requires t c κs =
-    let W = rw (c .before .before .p .given .1) at (c .before .before .before .before .before .before .before .before .walk .ensures) in
-    let h = push-fits _ _ _ _ _ _ _ _ _ _ _ _ _ W (c .before .before .before .before .before .before .before .before .walk .kept .0) (c .before .before .before .before .before .before .before .before .walk .kept .1 .0) (c .before .before .before .before .before .before .before .before .before .before .before .before .before .before .before .pre .1) in
+    let start = c .before .before .before .before .before .before .before .before .before .before .before .before .before .before .before in
+    let walk′ = c .before .before .before .before .before .before .before .before .walk in
+    let W = rw (c .before .before .p .given .1) at (walk′ .ensures) in
+    let h = push-fits _ _ _ _ _ _ _ _ _ _ _ _ _ W (walk′ .kept .0) (walk′ .kept .1 .0) (start .pre .1) in
     omega arith
 
 in-turn-add-walk : (t : ℕ) → in-turn-lts.Need-add-walk (walk-below t, walk.Post, put-reads.Asked, put-reads.Learnt) (in-turn-at t) in-turn.Post
@@ -76,8 +78,11 @@ in-turn-add-walk t c =
 
 in-turn-walk-requires-2 : (t : ℕ) → in-turn-lts.Need-walk-requires-2 (walk-below t, walk.Post, put-reads.Asked, put-reads.Learnt) (in-turn-at t) in-turn.Post
 in-turn-walk-requires-2 t c κs =
-    let W = rw (c .before .before .before .before .before .before .before .p .given .1) at (c .before .before .before .before .before .before .before .before .before .before .before .before .before .walk .ensures) in
-    (omega (arith, c .before .before .before .before .before .before .before .before .before .before .before .before .before .before .before .before .before .before .before .before .pre .0), walk-second _ _ _ _ _ _ _ _ _ _ _ _ _ W (c .before .before .before .before .before .before .before .before .before .before .before .before .before .walk .kept .0) (c .before .before .before .before .before .before .before .before .before .before .before .before .before .walk .kept .1 .0) (c .before .before .before .before .before .before .before .before .before .before .before .before .before .before .before .before .before .before .before .before .pre .1) _ (c .before .before .before .before .put .ensures))
+    let start = c .before .before .before .before .before .before .before .before .before .before .before .before .before .before .before .before .before .before .before .before in
+    let walk′ = c .before .before .before .before .before .before .before .before .before .before .before .before .before .walk in
+    let p = c .before .before .before .before .before .before .before .p in
+    let W = rw (p .given .1) at (walk′ .ensures) in
+    (omega (arith, start .pre .0), walk-second _ _ _ _ _ _ _ _ _ _ _ _ _ W (walk′ .kept .0) (walk′ .kept .1 .0) (start .pre .1) _ (c .before .before .before .before .put .ensures))
 
 in-turn-same-length : (t : ℕ) → in-turn-lts.Need-same-length (walk-below t, walk.Post, put-reads.Asked, put-reads.Learnt) (in-turn-at t) in-turn.Post
 in-turn-same-length t c = search needs
@@ -96,8 +101,11 @@ in-turn-same-length-4 t c = search needs
 
 in-turn-returns-2 : (t : ℕ) → in-turn-lts.Need-returns-2 (walk-below t, walk.Post, put-reads.Asked, put-reads.Learnt) (in-turn-at t) in-turn.Post
 in-turn-returns-2 t c =
-    let W = rw (c .before .before .before .before .before .before .before .before .before .before .before .before .p .given .1) at (c .before .before .before .before .before .before .before .before .before .before .before .before .before .before .before .before .before .before .walk .ensures) in
-    two-concluded _ _ _ _ _ _ _ _ _ _ _ _ _ W (c .before .before .before .before .before .before .before .before .before .before .before .before .before .before .before .before .before .before .walk .kept .0) (c .before .before .before .before .before .before .before .before .before .before .before .before .before .before .before .before .before .before .walk .kept .1 .0) _ _ _ _ (c .before .before .before .before .before .before .before .before .before .put .ensures) (c .before .before .before .before .walk2 .ensures)
+    let walk′ = c .before .before .before .before .before .before .before .before .before .before .before .before .before .before .before .before .before .before .walk in
+    let p = c .before .before .before .before .before .before .before .before .before .before .before .before .p in
+    let put = c .before .before .before .before .before .before .before .before .before .put in
+    let W = rw (p .given .1) at (walk′ .ensures) in
+    two-concluded _ _ _ _ _ _ _ _ _ _ _ _ _ W (walk′ .kept .0) (walk′ .kept .1 .0) _ _ _ _ (put .ensures) (c .before .before .before .before .walk2 .ensures)
 
 under-named-requires : (t : ℕ) → under-lts.Need-named-requires (named-reads.Asked, named-reads.Learnt, put-reads.Asked, put-reads.Learnt, walk-below t, walk.Post, conditional-reads.Asked, conditional-reads.Learnt) (under-at t) under.Post
 under-named-requires t c κs = search needs
@@ -113,7 +121,10 @@ under-add-walk t c =
     search needs
 
 under-walk-requires : (t : ℕ) → under-lts.Need-walk-requires (named-reads.Asked, named-reads.Learnt, put-reads.Asked, put-reads.Learnt, walk-below t, walk.Post, conditional-reads.Asked, conditional-reads.Learnt) (under-at t) under.Post
-under-walk-requires t c κs = (omega (arith, c .before .before .before .before .before .before .before .before .before .before .before .pre .0), walk-inside _ _ _ _ _ _ _ _ _ _ (c .before .before .before .before .before .before .named .ensures) (c .before .before .before .before .before .before .before .before .before .before .before .pre .1) _ (c .before .before .before .before .put .ensures))
+under-walk-requires t c κs =
+    let start = c .before .before .before .before .before .before .before .before .before .before .before in
+    let named = c .before .before .before .before .before .before .named in
+    (omega (arith, start .pre .0), walk-inside _ _ _ _ _ _ _ _ _ _ (named .ensures) (start .pre .1) _ (c .before .before .before .before .put .ensures))
 
 under-enum-known-why : (t : ℕ) → under-lts.Need-enum-known-why (named-reads.Asked, named-reads.Learnt, put-reads.Asked, put-reads.Learnt, walk-below t, walk.Post, conditional-reads.Asked, conditional-reads.Learnt) (under-at t) under.Post
 under-enum-known-why t c = search needs
@@ -123,8 +134,12 @@ under-enum-known-q t c = search needs
 
 under-conditional-requires : (t : ℕ) → under-lts.Need-conditional-requires (named-reads.Asked, named-reads.Learnt, put-reads.Asked, put-reads.Learnt, walk-below t, walk.Post, conditional-reads.Asked, conditional-reads.Learnt) (under-at t) under.Post
 under-conditional-requires t c κs =
-    let W = rw (c .before .before .q .given .1) at (c .before .before .before .before .before .before .before .before .walk .ensures) in
-    conditional-fits _ _ _ _ _ _ _ _ _ _ (c .before .before .before .before .before .before .before .before .before .before .before .before .before .before .before .named .ensures) _ _ _ _ _ _ (c .before .before .before .before .before .before .before .before .before .before .before .before .before .put .ensures) W (c .before .before .before .before .before .before .before .before .walk .kept .0) (c .before .before .before .before .before .before .before .before .before .before .before .before .before .before .before .before .before .before .before .before .pre .1)
+    let start = c .before .before .before .before .before .before .before .before .before .before .before .before .before .before .before .before .before .before .before .before in
+    let named = c .before .before .before .before .before .before .before .before .before .before .before .before .before .before .before .named in
+    let put = c .before .before .before .before .before .before .before .before .before .before .before .before .before .put in
+    let walk′ = c .before .before .before .before .before .before .before .before .walk in
+    let W = rw (c .before .before .q .given .1) at (walk′ .ensures) in
+    conditional-fits _ _ _ _ _ _ _ _ _ _ (named .ensures) _ _ _ _ _ _ (put .ensures) W (walk′ .kept .0) (start .pre .1)
 
 under-same-length : (t : ℕ) → under-lts.Need-same-length (named-reads.Asked, named-reads.Learnt, put-reads.Asked, put-reads.Learnt, walk-below t, walk.Post, conditional-reads.Asked, conditional-reads.Learnt) (under-at t) under.Post
 under-same-length t c = search needs
@@ -133,7 +148,11 @@ under-same-length-2 : (t : ℕ) → under-lts.Need-same-length-2 (named-reads.As
 under-same-length-2 t c = search needs
 
 under-returns : (t : ℕ) → under-lts.Need-returns (named-reads.Asked, named-reads.Learnt, put-reads.Asked, put-reads.Learnt, walk-below t, walk.Post, conditional-reads.Asked, conditional-reads.Learnt) (under-at t) under.Post
-under-returns t c = under-refused _ _ _ _ _ _ _ _ _ _ (c .before .before .before .before .before .before .before .before .before .before .before .before .before .before .named .ensures) _ _ _ _ _ (c .before .before .before .before .before .before .before .before .before .before .before .before .put .ensures) (rw (c .before .why .given .1) at (c .before .before .before .before .before .before .before .walk .ensures))
+under-returns t c =
+    let named = c .before .before .before .before .before .before .before .before .before .before .before .before .before .before .named in
+    let put = c .before .before .before .before .before .before .before .before .before .before .before .before .put in
+    let walk′ = c .before .before .before .before .before .before .before .walk in
+    under-refused _ _ _ _ _ _ _ _ _ _ (named .ensures) _ _ _ _ _ (put .ensures) (rw (c .before .why .given .1) at (walk′ .ensures))
 
 under-same-length-3 : (t : ℕ) → under-lts.Need-same-length-3 (named-reads.Asked, named-reads.Learnt, put-reads.Asked, put-reads.Learnt, walk-below t, walk.Post, conditional-reads.Asked, conditional-reads.Learnt) (under-at t) under.Post
 under-same-length-3 t c = search needs
@@ -143,8 +162,11 @@ under-same-length-4 t c = search needs
 
 under-returns-2 : (t : ℕ) → under-lts.Need-returns-2 (named-reads.Asked, named-reads.Learnt, put-reads.Asked, put-reads.Learnt, walk-below t, walk.Post, conditional-reads.Asked, conditional-reads.Learnt) (under-at t) under.Post
 under-returns-2 t c =
-    let W = rw (c .before .before .before .before .before .q .given .1) at (c .before .before .before .before .before .before .before .before .before .before .before .walk .ensures) in
-    under-concluded _ _ _ _ _ _ _ _ _ _ (c .before .before .before .before .before .before .before .before .before .before .before .before .before .before .before .before .before .before .named .ensures) _ _ _ _ _ _ (c .before .before .before .before .before .before .before .before .before .before .before .before .before .before .before .before .put .ensures) W (c .before .before .before .before .before .before .before .before .before .before .before .walk .kept .0) _ _ (c .before .before .conditional .ensures)
+    let named = c .before .before .before .before .before .before .before .before .before .before .before .before .before .before .before .before .before .before .named in
+    let put = c .before .before .before .before .before .before .before .before .before .before .before .before .before .before .before .before .put in
+    let walk′ = c .before .before .before .before .before .before .before .before .before .before .before .walk in
+    let W = rw (c .before .before .before .before .before .q .given .1) at (walk′ .ensures) in
+    under-concluded _ _ _ _ _ _ _ _ _ _ (named .ensures) _ _ _ _ _ _ (put .ensures) W (walk′ .kept .0) _ _ (c .before .before .conditional .ensures)
 
 walk-taken-requires : (t : ℕ) → walk-lts.Need-taken-requires (taken-reads.Asked, taken-reads.Learnt, rule-node-reads.Asked, rule-node-reads.Learnt, in-turn-below t, in-turn.Post, under-below t, under.Post) (walk-at t) walk.Post
 walk-taken-requires t c κs = search needs

@@ -90,7 +90,9 @@ read-node-read-rest-requires t c κs =
     (omega (arith, c .before .before .before .before .before .before .before .pre), (ltb-true _ 7168 (c .if2 .taken), omega arith))
 
 read-node-returns : (t : ℕ) → read-node-lts.Need-returns (read-from-reads.Asked, read-from-reads.Learnt, read-rest-below t, read-rest.Post) (read-node-at t) read-node.Post
-read-node-returns t c = λ ps l. rest-tallied _ ps _ _ _ _ (sym (c .before .before .before .before .before .before .read-from .ensures) ∙ ap gotten (c .before .before .before .before .kind .given .1)) _ _ (c .before .before .if1 .taken) (ltb-true _ 7168 (c .before .if2 .taken)) (c .read-rest .ensures ps _ l)
+read-node-returns t c =
+    let read-from = c .before .before .before .before .before .before .read-from in
+    λ ps l. rest-tallied _ ps _ _ _ _ (sym (read-from .ensures) ∙ ap gotten (c .before .before .before .before .kind .given .1)) _ _ (c .before .before .if1 .taken) (ltb-true _ 7168 (c .before .if2 .taken)) (c .read-rest .ensures ps _ l)
 
 read-node-returns-2 : (t : ℕ) → read-node-lts.Need-returns-2 (read-from-reads.Asked, read-from-reads.Learnt, read-rest-below t, read-rest.Post) (read-node-at t) read-node.Post
 read-node-returns-2 t c = λ ps l. kind-refused _ ps _ _ _ _ _ (sym (c .before .before .before .read-from .ensures) ∙ ap gotten (c .before .why .given .1))
@@ -155,10 +157,14 @@ read-two-returns : (t : ℕ) → read-two-lts.Need-returns (read-node-below t, r
 read-two-returns t c = λ ps l. first-refused _ _ ps _ _ _ _ (sym (c .before .why .given .1) ∙ c .before .before .before .read-node .ensures ps l)
 
 read-two-returns-2 : (t : ℕ) → read-two-lts.Need-returns-2 (read-node-below t, read-node.Post) (read-two-at t) read-two.Post
-read-two-returns-2 t c = λ ps l. second-refused _ _ ps _ _ _ _ _ (sym (c .before .before .before .before .before .nodes .given .1) ∙ c .before .before .before .before .before .before .before .read-node .ensures ps l) _ _ (sym (c .before .why2 .given .1) ∙ c .before .before .before .read-node2 .ensures ps l)
+read-two-returns-2 t c =
+    let read-node′ = c .before .before .before .before .before .before .before .read-node in
+    λ ps l. second-refused _ _ ps _ _ _ _ _ (sym (c .before .before .before .before .before .nodes .given .1) ∙ read-node′ .ensures ps l) _ _ (sym (c .before .why2 .given .1) ∙ c .before .before .before .read-node2 .ensures ps l)
 
 read-two-returns-3 : (t : ℕ) → read-two-lts.Need-returns-3 (read-node-below t, read-node.Post) (read-two-at t) read-two.Post
-read-two-returns-3 t c = λ ps l. two-tallied _ _ ps _ _ _ _ _ (sym (c .before .before .before .before .before .nodes .given .1) ∙ c .before .before .before .before .before .before .before .read-node .ensures ps l) _ _ _ (sym (c .before .all .given .1) ∙ c .before .before .before .read-node2 .ensures ps l)
+read-two-returns-3 t c =
+    let read-node′ = c .before .before .before .before .before .before .before .read-node in
+    λ ps l. two-tallied _ _ ps _ _ _ _ _ (sym (c .before .before .before .before .before .nodes .given .1) ∙ read-node′ .ensures ps l) _ _ _ (sym (c .before .all .given .1) ∙ c .before .before .before .read-node2 .ensures ps l)
 
 read-under-read-below-requires : (t : ℕ) → read-under-lts.Need-read-below-requires (read-below-reads.Asked, read-below-reads.Learnt, read-node-below t, read-node.Post) (read-under-at t) read-under.Post
 read-under-read-below-requires t c κs = search needs

@@ -38,7 +38,10 @@ same-length-3 c = search needs
 
 returns-2 : tie.Need-returns-2
 returns-2 c =
-    count-goes-on _ _ _ _ _ _ _ _ (sym (c .before .before .before .before .before .before .before .before .before .before .before .before .before .read-from .ensures) ∙ ap gotten (c .before .before .before .before .before .before .before .before .before .before .before .count .given .1)) (c .before .before .before .before .before .before .over-listing .ensures)
+    let read-from = c .before .before .before .before .before .before .before .before .before .before .before .before .before .read-from in
+    let count′ = c .before .before .before .before .before .before .before .before .before .before .before .count in
+    let over-listing = c .before .before .before .before .before .before .over-listing in
+    count-goes-on _ _ _ _ _ _ _ _ (sym (read-from .ensures) ∙ ap gotten (count′ .given .1)) (over-listing .ensures)
 
 pub against-spec : {M : Type 1} → statement M
 against-spec =

@@ -15,8 +15,10 @@ enum-known-c c = search needs
 
 against-requires : tie.Need-against-requires
 against-requires c κs =
-    let k = c .before .before .before .before .before .before .before .before .before .before .before .before .before .before .before .before .read-sheet .kept in
-    sheet-ready _ _ _ _ _ _ _ _ _ _ _ (c .before .before .before .before .before .before .before .before .before .before .before .before .before .before .before .before .before .before .before .before .before .before .before .before .before .before .before .before .before .pre) _ (c .before .before .before .before .before .before .before .before .before .before .before .before .before .before .before .before .read-sheet .ensures) _ (c .before .before .before .before .c .given .1) (k .0) (k .1 .0) (k .1 .1 .1 .1 .0)
+    let start = c .before .before .before .before .before .before .before .before .before .before .before .before .before .before .before .before .before .before .before .before .before .before .before .before .before .before .before .before .before in
+    let read-sheet = c .before .before .before .before .before .before .before .before .before .before .before .before .before .before .before .before .read-sheet in
+    let k = read-sheet .kept in
+    sheet-ready _ _ _ _ _ _ _ _ _ _ _ (start .pre) _ (read-sheet .ensures) _ (c .before .before .before .before .c .given .1) (k .0) (k .1 .0) (k .1 .1 .1 .1 .0)
 
 same-length : tie.Need-same-length
 same-length c = search needs
@@ -34,7 +36,10 @@ same-length-5 : tie.Need-same-length-5
 same-length-5 c = search needs
 
 returns : tie.Need-returns
-returns c = sheet-stops _ _ _ _ _ _ _ _ _ _ _ (c .before .before .before .before .before .before .before .before .before .before .before .before .before .before .before .before .before .before .before .before .before .before .before .before .before .before .pre) _ (c .before .before .before .before .before .before .before .before .before .before .before .before .before .read-sheet .ensures) _ _ _ (c .before .why .given .1)
+returns c =
+    let start = c .before .before .before .before .before .before .before .before .before .before .before .before .before .before .before .before .before .before .before .before .before .before .before .before .before .before in
+    let read-sheet = c .before .before .before .before .before .before .before .before .before .before .before .before .before .read-sheet in
+    sheet-stops _ _ _ _ _ _ _ _ _ _ _ (start .pre) _ (read-sheet .ensures) _ _ _ (c .before .why .given .1)
 
 same-length-6 : tie.Need-same-length-6
 same-length-6 c = search needs
@@ -52,7 +57,12 @@ same-length-10 : tie.Need-same-length-10
 same-length-10 c = search needs
 
 returns-2 : tie.Need-returns-2
-returns-2 c = sheet-goes-on _ _ _ _ _ _ _ _ _ _ _ (c .before .before .before .before .before .before .before .before .before .before .before .before .before .before .before .before .before .before .before .before .before .before .before .before .before .before .before .before .before .before .before .before .before .before .before .before .pre) _ (c .before .before .before .before .before .before .before .before .before .before .before .before .before .before .before .before .before .before .before .before .before .before .before .read-sheet .ensures) _ _ _ (c .before .before .before .before .before .before .before .before .before .before .before .c .given .1) (c .before .before .before .before .before .before .against .ensures)
+returns-2 c =
+    let start = c .before .before .before .before .before .before .before .before .before .before .before .before .before .before .before .before .before .before .before .before .before .before .before .before .before .before .before .before .before .before .before .before .before .before .before .before in
+    let read-sheet = c .before .before .before .before .before .before .before .before .before .before .before .before .before .before .before .before .before .before .before .before .before .before .before .read-sheet in
+    let c′ = c .before .before .before .before .before .before .before .before .before .before .before .c in
+    let against = c .before .before .before .before .before .before .against in
+    sheet-goes-on _ _ _ _ _ _ _ _ _ _ _ (start .pre) _ (read-sheet .ensures) _ _ _ (c′ .given .1) (against .ensures)
 
 pub answer-spec : {M : Type 1} → statement M
 answer-spec =

@@ -1,23 +1,25 @@
 -- `checker::clear` meets its contract: each buffer is as long as fixed, and is wiped so far.
-use Rattle.checker.proofs.SheetPassing.{enough-long, all-wiped}
+use native.Mathlib.Omega.{arith}
+use Rattle.theorems.proofs.Buffers.{enough-at}
+use Rattle.checker.proofs.Scratch.{five-wiped}
 use borrow.Author.Needs.{needs}
 use Rattle.checker.proofs.clear.Statement.{statement}
 use Rattle.checker.proofs.clear.Tie as tie
 
 wipe-requires : tie.Need-wipe-requires
-wipe-requires c κs = enough-long _ _ _ _ _ (c .before .before .before .before .before .before .pre) .names
+wipe-requires c κs = enough-at _ _ (c .before .before .before .before .before .before .pre) 0 (omega arith)
 
 wipe-requires-2 : tie.Need-wipe-requires-2
-wipe-requires-2 c κs = enough-long _ _ _ _ _ (c .before .before .before .before .before .before .before .before .before .before .pre) .forms
+wipe-requires-2 c κs = enough-at _ _ (c .before .before .before .before .before .before .before .before .before .before .pre) 1 (omega arith)
 
 wipe-requires-3 : tie.Need-wipe-requires-3
-wipe-requires-3 c κs = enough-long _ _ _ _ _ (c .before .before .before .before .before .before .before .before .before .before .before .before .before .before .pre) .patterns
+wipe-requires-3 c κs = enough-at _ _ (c .before .before .before .before .before .before .before .before .before .before .before .before .before .before .pre) 2 (omega arith)
 
 wipe-requires-4 : tie.Need-wipe-requires-4
-wipe-requires-4 c κs = enough-long _ _ _ _ _ (c .before .before .before .before .before .before .before .before .before .before .before .before .before .before .before .before .before .before .pre) .phrases
+wipe-requires-4 c κs = enough-at _ _ (c .before .before .before .before .before .before .before .before .before .before .before .before .before .before .before .before .before .before .pre) 3 (omega arith)
 
 wipe-requires-5 : tie.Need-wipe-requires-5
-wipe-requires-5 c κs = enough-long _ _ _ _ _ (c .before .before .before .before .before .before .before .before .before .before .before .before .before .before .before .before .before .before .before .before .before .before .pre) .base
+wipe-requires-5 c κs = enough-at _ _ (c .before .before .before .before .before .before .before .before .before .before .before .before .before .before .before .before .before .before .before .before .before .before .pre) 4 (omega arith)
 
 same-length : tie.Need-same-length
 same-length c = search needs
@@ -36,7 +38,11 @@ same-length-5 c = search needs
 
 returns : tie.Need-returns
 returns c =
-    all-wiped _ _ _ _ _ _ _ _ _ _ (c .before .before .before .before .before .before .before .before .before .before .before .before .before .before .before .before .before .before .wipe .ensures) (c .before .before .before .before .before .before .before .before .before .before .before .before .before .before .wipe2 .ensures) (c .before .before .before .before .before .before .before .before .before .before .wipe3 .ensures) (c .before .before .before .before .before .before .wipe4 .ensures) (c .before .before .wipe5 .ensures)
+    let wipe = c .before .before .before .before .before .before .before .before .before .before .before .before .before .before .before .before .before .before .wipe in
+    let wipe2 = c .before .before .before .before .before .before .before .before .before .before .before .before .before .before .wipe2 in
+    let wipe3 = c .before .before .before .before .before .before .before .before .before .before .wipe3 in
+    let wipe4 = c .before .before .before .before .before .before .wipe4 in
+    five-wiped _ _ _ _ _ _ _ _ _ _ (wipe .ensures) (wipe2 .ensures) (wipe3 .ensures) (wipe4 .ensures) (c .before .before .wipe5 .ensures)
 
 pub clear-spec : {M : Type 1} → statement M
 clear-spec =

@@ -29,8 +29,10 @@ same-length-2 c = search needs
 
 returns : tie.Need-returns
 returns c =
-    let W = rw (c .before .before .before .p .given .1) at (c .before .before .before .before .before .before .before .before .before .walk .ensures) in
-    judge-stands _ _ _ _ _ _ _ _ (c .before .before .before .before .before .before .before .before .before .before .before .before .before .before .before .before .pre .long) (c .before .before .before .before .before .before .before .before .before .before .before .before .before .before .before .before .pre .small) _ _ _ _ _ W (c .before .before .before .before .before .before .before .before .before .walk .kept .0) _ _ (c .before .at .ensures) (c .if1 .taken) refl
+    let start = c .before .before .before .before .before .before .before .before .before .before .before .before .before .before .before .before in
+    let walk′ = c .before .before .before .before .before .before .before .before .before .walk in
+    let W = rw (c .before .before .before .p .given .1) at (walk′ .ensures) in
+    judge-stands _ _ _ _ _ _ _ _ (start .pre .long) (start .pre .small) _ _ _ _ _ W (walk′ .kept .0) _ _ (c .before .at .ensures) (c .if1 .taken) refl
 
 same-length-3 : tie.Need-same-length-3
 same-length-3 c = search needs
@@ -39,7 +41,10 @@ same-length-4 : tie.Need-same-length-4
 same-length-4 c = search needs
 
 returns-2 : tie.Need-returns-2
-returns-2 c = judge-refused _ _ _ _ _ _ _ _ (c .before .before .before .before .before .before .before .before .before .before .before .before .before .before .pre .long) (c .before .before .before .before .before .before .before .before .before .before .before .before .before .before .pre .small) _ _ _ _ (rw (c .before .why .given .1) at (c .before .before .before .before .before .before .before .walk .ensures))
+returns-2 c =
+    let start = c .before .before .before .before .before .before .before .before .before .before .before .before .before .before in
+    let walk′ = c .before .before .before .before .before .before .before .walk in
+    judge-refused _ _ _ _ _ _ _ _ (start .pre .long) (start .pre .small) _ _ _ _ (rw (c .before .why .given .1) at (walk′ .ensures))
 
 same-length-5 : tie.Need-same-length-5
 same-length-5 c = search needs
@@ -49,8 +54,10 @@ same-length-6 c = search needs
 
 returns-3 : tie.Need-returns-3
 returns-3 c =
-    let W = rw (c .before .before .before .p .given .1) at (c .before .before .before .before .before .before .before .before .before .walk .ensures) in
-    judge-differs _ _ _ _ _ _ _ _ (c .before .before .before .before .before .before .before .before .before .before .before .before .before .before .before .before .pre .long) (c .before .before .before .before .before .before .before .before .before .before .before .before .before .before .before .before .pre .small) _ _ _ _ _ W (c .before .before .before .before .before .before .before .before .before .walk .kept .0) _ (c .before .at .ensures) (c .if1 .left)
+    let start = c .before .before .before .before .before .before .before .before .before .before .before .before .before .before .before .before in
+    let walk′ = c .before .before .before .before .before .before .before .before .before .walk in
+    let W = rw (c .before .before .before .p .given .1) at (walk′ .ensures) in
+    judge-differs _ _ _ _ _ _ _ _ (start .pre .long) (start .pre .small) _ _ _ _ _ W (walk′ .kept .0) _ (c .before .at .ensures) (c .if1 .left)
 
 pub judge-spec : {M : Type 1} → statement M
 judge-spec =

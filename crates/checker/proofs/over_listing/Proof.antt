@@ -43,8 +43,11 @@ same-length-5 c = search needs
 
 returns-2 : tie.Need-returns-2
 returns-2 c =
-    let p = c .before .before .before .before .before .before .before .before .before .before .before .before .before .before .before .before .before .before .before .before .before .before .pre in
-    listing-goes-on _ _ _ _ _ _ _ _ (p .1) (p .0 .fixed) _ _ _ (c .before .before .before .before .before .before .before .before .before .before .before .before .before .before .before .read-propositions .ensures) _ _ (c .before .before .before .before .before .before .before .before .before .ended2 .given .1) (c .before .before .before .before .over-proof .ensures)
+    let start = c .before .before .before .before .before .before .before .before .before .before .before .before .before .before .before .before .before .before .before .before .before .before in
+    let read-propositions = c .before .before .before .before .before .before .before .before .before .before .before .before .before .before .before .read-propositions in
+    let ended2 = c .before .before .before .before .before .before .before .before .before .ended2 in
+    let p = start .pre in
+    listing-goes-on _ _ _ _ _ _ _ _ (p .1) (p .0 .fixed) _ _ _ (read-propositions .ensures) _ _ (ended2 .given .1) (c .before .before .before .before .over-proof .ensures)
 
 pub over-listing-spec : {M : Type 1} → statement M
 over-listing-spec =

@@ -41,7 +41,9 @@ same-length-2 c = search needs
 
 returns-2 : tie.Need-returns-2
 returns-2 c =
-    proof-judged _ _ _ _ _ _ _ _ _ _ (c .before .before .before .before .judge .ensures) (λ ps l. sym (c .before .before .before .before .before .before .before .before .stated .given .1) ∙ c .before .before .before .before .before .before .before .before .before .before .read-proof .ensures ps l)
+    let read-proof = c .before .before .before .before .before .before .before .before .before .before .read-proof in
+    let stated = c .before .before .before .before .before .before .before .before .stated in
+    proof-judged _ _ _ _ _ _ _ _ _ _ (c .before .before .before .before .judge .ensures) (λ ps l. sym (stated .given .1) ∙ read-proof .ensures ps l)
 
 pub over-proof-spec : {M : Type 1} → statement M
 over-proof-spec =

@@ -39,10 +39,16 @@ returns : tie.Need-returns
 returns c = λ ps at l. rule-refused _ _ _ _ _ (sym (c .before .before .before .read-from .ensures) ∙ ap gotten (c .before .why .given .1)) ps at
 
 returns-2 : tie.Need-returns-2
-returns-2 c = λ ps at l. arguments-refused _ _ _ _ _ (sym (c .before .before .before .before .before .before .before .before .read-from .ensures) ∙ ap gotten (c .before .before .before .before .before .before .rule .given .1)) _ (c .before .before .before .before .arguments .ensures) ps at _ _ (sym (c .before .why2 .given .1) ∙ c .before .before .before .read-references .ensures ps l)
+returns-2 c =
+    let read-from = c .before .before .before .before .before .before .before .before .read-from in
+    let rule′ = c .before .before .before .before .before .before .rule in
+    λ ps at l. arguments-refused _ _ _ _ _ (sym (read-from .ensures) ∙ ap gotten (rule′ .given .1)) _ (c .before .before .before .before .arguments .ensures) ps at _ _ (sym (c .before .why2 .given .1) ∙ c .before .before .before .read-references .ensures ps l)
 
 returns-3 : tie.Need-returns-3
-returns-3 c = λ ps at l. rule-tallied _ _ _ _ _ (sym (c .before .before .before .before .before .before .before .before .read-from .ensures) ∙ ap gotten (c .before .before .before .before .before .before .rule .given .1)) _ (c .before .before .before .before .arguments .ensures) ps at _ _ (sym (c .before .k .given .1) ∙ c .before .before .before .read-references .ensures ps l)
+returns-3 c =
+    let read-from = c .before .before .before .before .before .before .before .before .read-from in
+    let rule′ = c .before .before .before .before .before .before .rule in
+    λ ps at l. rule-tallied _ _ _ _ _ (sym (read-from .ensures) ∙ ap gotten (rule′ .given .1)) _ (c .before .before .before .before .arguments .ensures) ps at _ _ (sym (c .before .k .given .1) ∙ c .before .before .before .read-references .ensures ps l)
 
 pub read-rule-spec : {M : Type 1} → statement M
 read-rule-spec =

@@ -30,7 +30,10 @@ same-length : tie.Need-same-length
 same-length c = search needs
 
 returns : tie.Need-returns
-returns c = rule-walks _ _ _ _ _ _ _ _ _ _ _ _ (c .before .before .before .before .before .before .before .taken .ensures) (c .before .before .before .before .before .before .arguments .ensures) (c .before .before .before .before .before .given .ensures) _ _ _ (c .before .before .before .apply .ensures) (c .answered .ensures)
+returns c =
+    let taken = c .before .before .before .before .before .before .before .taken in
+    let arguments = c .before .before .before .before .before .before .arguments in
+    rule-walks _ _ _ _ _ _ _ _ _ _ _ _ (taken .ensures) (arguments .ensures) (c .before .before .before .before .before .given .ensures) _ _ _ (c .before .before .before .apply .ensures) (c .answered .ensures)
 
 pub rule-node-spec : {M : Type 1} → statement M
 rule-node-spec =

@@ -22,7 +22,6 @@ gather-at t = and 1 gather-kinds.ps (is 1 gather-kinds.ps μ-gather t) gather.Pr
 abbrev gather-below : ℕ → In 1 gather-kinds.ps
 gather-below t = and 1 gather-kinds.ps (falls 1 gather-kinds.ps _<_ μ-gather t) gather.Pre
 
--- src/lib.rt:996:9
 gather-returns : (t : ℕ) → gather-lts.Need-returns (
   load-reads.Asked,
   load-reads.Learnt,
@@ -31,7 +30,6 @@ gather-returns : (t : ℕ) → gather-lts.Need-returns (
 ) (gather-at t) gather.Post
 gather-returns t c = taken-none _ _ _ _ _ _ (c .if1 .taken)
 
--- src/lib.rt:998:38
 gather-sub-load : (t : ℕ) → gather-lts.Need-sub-load (
   load-reads.Asked,
   load-reads.Learnt,
@@ -40,7 +38,6 @@ gather-sub-load : (t : ℕ) → gather-lts.Need-sub-load (
 ) (gather-at t) gather.Post
 gather-sub-load t c = let l = long-first _ _ _ 0 0 0 (c .if1 .left) (c .before .before .pre .1) in omega (arith, l)
 
--- src/lib.rt:998:9
 gather-load-requires : (t : ℕ) → gather-lts.Need-load-requires (
   load-reads.Asked,
   load-reads.Learnt,
@@ -49,7 +46,6 @@ gather-load-requires : (t : ℕ) → gather-lts.Need-load-requires (
 ) (gather-at t) gather.Post
 gather-load-requires t c κs = long-first _ _ _ 0 0 0 (c .if1 .left) (c .before .before .pre .1) .1
 
--- src/lib.rt:1000:21
 gather-enum-known-value : (t : ℕ) → gather-lts.Need-enum-known-value (
   load-reads.Asked,
   load-reads.Learnt,
@@ -58,7 +54,6 @@ gather-enum-known-value : (t : ℕ) → gather-lts.Need-enum-known-value (
 ) (gather-at t) gather.Post
 gather-enum-known-value t c = search needs
 
--- src/lib.rt:1001:9
 gather-returns-2 : (t : ℕ) → gather-lts.Need-returns-2 (
   load-reads.Asked,
   load-reads.Learnt,
@@ -67,7 +62,6 @@ gather-returns-2 : (t : ℕ) → gather-lts.Need-returns-2 (
 ) (gather-at t) gather.Post
 gather-returns-2 t c = taken-other _ _ _ _ _ _ (c .before .load .result) (c .before .before .if1 .left) (c .before .load .ensures) (otherwise (c .before .load .result .value) (c .match .keys2))
 
--- src/lib.rt:1003:30
 gather-sub-gather : (t : ℕ) → gather-lts.Need-sub-gather (
   load-reads.Asked,
   load-reads.Learnt,
@@ -76,7 +70,6 @@ gather-sub-gather : (t : ℕ) → gather-lts.Need-sub-gather (
 ) (gather-at t) gather.Post
 gather-sub-gather t c = search needs
 
--- src/lib.rt:1003:5
 gather-gather-requires : (t : ℕ) → gather-lts.Need-gather-requires (
   load-reads.Asked,
   load-reads.Learnt,
@@ -87,7 +80,6 @@ gather-gather-requires t c κs =
     let pre = c .before .before .before .before .before .before .pre in
     (omega (arith, pre, c .before .before .before .before .if1 .left), long-next _ _ _ 0 0 0 _ (c .before .before .before .before .if1 .left) (c .before .before .before .load .ensures) (pre .1))
 
--- src/lib.rt:991:1
 gather-returns-3 : (t : ℕ) → gather-lts.Need-returns-3 (
   load-reads.Asked,
   load-reads.Learnt,

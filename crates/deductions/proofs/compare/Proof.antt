@@ -7,19 +7,15 @@ use Rattle.deductions.proofs.compare.Tie as tie
 use Rattle.deductions.proofs.compare.Reads as reads
 use Rattle.deductions.proofs.compare.Lts as lts
 
--- src/lib.rt:792:21
 enum-known-v : tie.Need-enum-known-v
 enum-known-v c = search needs
 
--- src/lib.rt:793:9
 returns : tie.Need-returns
 returns c = compared-other (c .before .args .v) _ _ _ _ (otherwise (c .before .args .v) (c .match .keys2))
 
--- src/lib.rt:796:9
 returns-2 : tie.Need-returns-2
 returns-2 c = compared-same (c .before .before .before .before .args .v) _ _ _ _ _ (c .before .before .v .given .1) (c .if1 .taken)
 
--- src/lib.rt:789:1
 returns-3 : tie.Need-returns-3
 returns-3 c = compared-differs (c .before .before .before .before .args .v) _ _ _ _ _ (c .before .before .v .given .1) (c .if1 .left)
 

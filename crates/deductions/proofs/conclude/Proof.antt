@@ -8,51 +8,39 @@ use Rattle.deductions.proofs.conclude.Lts as lts
 use Rattle.rules.proofs.apply.Reads as apply-reads
 use Rattle.tokens.proofs.rule.Reads as rule-reads
 
--- src/lib.rt:970:11
 apply-requires : tie.Need-apply-requires
 apply-requires c κs = search needs
 
--- src/lib.rt:971:24
 enum-known-p : tie.Need-enum-known-p
 enum-known-p c = search needs
 
--- src/lib.rt:972:17
 rule-requires : tie.Need-rule-requires
 rule-requires c κs = search needs
 
--- src/lib.rt:985:31
 enum-told : tie.Need-enum-told
 enum-told c = search needs
 
--- src/lib.rt:986:29
 enum-told-2 : tie.Need-enum-told-2
 enum-told-2 c = search needs
 
--- src/lib.rt:953:1
 same-length : tie.Need-same-length
 same-length c = search needs
 
--- src/lib.rt:953:1
 same-length-2 : tie.Need-same-length-2
 same-length-2 c = search needs
 
--- src/lib.rt:953:1
 returns : tie.Need-returns
 returns c = rule-given _ _ _ _ _ _ _ _ _ _ _ _ _ (c .before .before .before .before .before .before .before .before .before .apply .ensures) _ _ _ _ (c .before .before .before .before .before .p .given .1) (c .before .before .rule .ensures)
 
--- src/lib.rt:953:1
 same-length-3 : tie.Need-same-length-3
 same-length-3 c = search needs
 
--- src/lib.rt:953:1
 returns-2 : tie.Need-returns-2
 returns-2 c = rule-misshapen _ _ _ _ _ _ _ _ _ _ _ _ _ (c .before .before .before .before .apply .ensures) (c .enum-told .given .1)
 
--- src/lib.rt:953:1
 same-length-4 : tie.Need-same-length-4
 same-length-4 c = search needs
 
--- src/lib.rt:953:1
 returns-3 : tie.Need-returns-3
 returns-3 c = rule-missing _ _ _ _ _ _ _ _ _ _ _ _ _ (c .before .before .before .before .apply .ensures) (c .enum-told2 .given .1)
 

@@ -10,43 +10,43 @@ use Rattle.deductions.proofs.conclude.Reads as conclude-reads
 use Rattle.deductions.proofs.gather.Reads as gather-reads
 use Rattle.language.proofs.arguments.Reads as arguments-reads
 
--- src/lib.rt:943:13
 arguments-requires : tie.Need-arguments-requires
 arguments-requires c κs = search needs
 
--- src/lib.rt:944:22
 gather-requires : tie.Need-gather-requires
 gather-requires c κs = args-long _ _ _ _ _ _ (c .before .before .before .before .before .before .pre .1)
 
--- src/lib.rt:945:26
 enum-known-x : tie.Need-enum-known-x
 enum-known-x c = search needs
 
--- src/lib.rt:945:38
 conclude-requires : tie.Need-conclude-requires
-conclude-requires c κs = conclude-asks _ _ _ _ _ _ (c .before .before .before .before .before .before .before .before .before .before .before .before .pre .1) (c .before .before .before .before .before .before .if1 .taken ∙ c .before .before .before .before .before .before .before .arguments .ensures) _ _ _ (sym (c .before .before .before .x .given .1) ∙ c .before .before .before .before .before .gather .ensures)
+conclude-requires c κs =
+    let start = c .before .before .before .before .before .before .before .before .before .before .before .before in
+    let arguments = c .before .before .before .before .before .before .before .arguments in
+    let if1 = c .before .before .before .before .before .before .if1 in
+    conclude-asks _ _ _ _ _ _ (start .pre .1) (if1 .taken ∙ arguments .ensures) _ _ _ (sym (c .before .before .before .x .given .1) ∙ c .before .before .before .before .before .gather .ensures)
 
--- src/lib.rt:946:29
 enum-told : tie.Need-enum-told
 enum-told c = search needs
 
--- src/lib.rt:944:9
 same-length : tie.Need-same-length
 same-length c = search needs
 
--- src/lib.rt:944:9
 same-length-2 : tie.Need-same-length-2
 same-length-2 c = search needs
 
--- src/lib.rt:944:9
 returns : tie.Need-returns
-returns c = λ s d. rule-applied s _ _ _ _ _ d _ _ _ _ _ _ _ _ _ (c .before .before .before .before .before .before .before .before .before .before .before .before .before .before .before .before .before .pre .1) (c .before .before .before .before .before .before .before .before .before .before .before .before .arguments .ensures) (c .before .before .before .before .before .before .before .before .before .before .before .if1 .taken) (sym (c .before .before .before .before .before .before .before .before .x .given .1) ∙ c .before .before .before .before .before .before .before .before .before .before .gather .ensures) (c .before .before .before .before .conclude .ensures)
+returns c =
+    let start = c .before .before .before .before .before .before .before .before .before .before .before .before .before .before .before .before .before in
+    let arguments = c .before .before .before .before .before .before .before .before .before .before .before .before .arguments in
+    let if1 = c .before .before .before .before .before .before .before .before .before .before .before .if1 in
+    let gather = c .before .before .before .before .before .before .before .before .before .before .gather in
+    let x = c .before .before .before .before .before .before .before .before .x in
+    λ s d. rule-applied s _ _ _ _ _ d _ _ _ _ _ _ _ _ _ (start .pre .1) (arguments .ensures) (if1 .taken) (sym (x .given .1) ∙ gather .ensures) (c .before .before .before .before .conclude .ensures)
 
--- src/lib.rt:944:9
 returns-2 : tie.Need-returns-2
 returns-2 c = λ s d. rule-other s _ _ _ _ _ d _ _ (c .before .before .before .before .arguments .ensures) (c .before .before .before .if1 .taken) (sym (c .enum-told .given .1) ∙ c .before .before .gather .ensures)
 
--- src/lib.rt:928:1
 returns-3 : tie.Need-returns-3
 returns-3 c = λ s d. rule-miscounted s _ _ _ _ _ d _ _ (c .before .arguments .ensures) (c .if1 .left)
 

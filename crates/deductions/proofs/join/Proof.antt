@@ -8,31 +8,24 @@ use Rattle.deductions.proofs.join.Reads as reads
 use Rattle.deductions.proofs.join.Lts as lts
 use Rattle.words.proofs.put.Reads as put-reads
 
--- src/lib.rt:919:19
 enum-known-l : tie.Need-enum-known-l
 enum-known-l c = search needs
 
--- src/lib.rt:920:13
 put-requires : tie.Need-put-requires
 put-requires c κs = let h = lemma-low _ _ (c .before .before .l .given .1) (c .before .before .before .before .before .pre .1) in omega (arith, h)
 
--- src/lib.rt:921:13
 add-result : tie.Need-add-result
 add-result c = search needs
 
--- src/lib.rt:923:24
 enum-told : tie.Need-enum-told
 enum-told c = search needs
 
--- src/lib.rt:914:1
 same-length : tie.Need-same-length
 same-length c = search needs
 
--- src/lib.rt:914:1
 returns : tie.Need-returns
 returns c = joined-of _ _ _ _ _ (c .before .before .before .before .before .l .given .1) (c .before .before .put .ensures)
 
--- src/lib.rt:914:1
 returns-2 : tie.Need-returns-2
 returns-2 c = joined-none _ _ _ (c .enum-told .given .1)
 

@@ -11,11 +11,9 @@ use Rattle.deductions.proofs.tollens.Reads as tollens-reads
 use Rattle.forms.proofs.conditional.Reads as conditional-reads
 use Rattle.forms.proofs.negation.Reads as negation-reads
 
--- src/lib.rt:1040:13
 conditional-requires : tie.Need-conditional-requires
 conditional-requires c κs = search needs
 
--- src/lib.rt:1041:13
 negation-requires : tie.Need-negation-requires
 negation-requires c κs =
     let s = sized _ _ _ _ _ (let h = c .before .before .before .before .before .before .before .before .before .pre .0 in omega (arith, h)) (c .before .before .before .conditional .ensures) in
@@ -23,7 +21,6 @@ negation-requires c κs =
     let h = c .before .before .before .before .before .before .before .before .before .pre in
     (omega (arith, s, k, h), omega arith)
 
--- src/lib.rt:1042:13
 negation-requires-2 : tie.Need-negation-requires-2
 negation-requires-2 c κs =
     let h = c .before .before .before .before .before .before .before .before .before .before .before .before .before .pre in
@@ -33,7 +30,6 @@ negation-requires-2 c κs =
     let k₂ = c .before .before .before .negation .kept .0 in
     (omega (arith, s, k, s₂, k₂, h), h .4)
 
--- src/lib.rt:1043:13
 tollens-requires : tie.Need-tollens-requires
 tollens-requires c κs =
     let h = c .before .before .before .before .before .before .before .before .before .before .before .before .before .before .before .before .before .pre in
@@ -42,19 +38,20 @@ tollens-requires c κs =
     let s₂ = sized _ _ _ _ _ (omega (arith, s, k, h)) (c .before .before .before .before .before .before .before .negation .ensures) in
     (h .2, h .3, omega (arith, s, h), omega (arith, s, s₂, h))
 
--- src/lib.rt:1044:9
 same-length : tie.Need-same-length
 same-length c = search needs
 
--- src/lib.rt:1044:9
 same-length-2 : tie.Need-same-length-2
 same-length-2 c = search needs
 
--- src/lib.rt:1044:9
 returns : tie.Need-returns
-returns c = refuted-false _ _ _ _ _ _ _ _ _ _ _ _ _ _ (c .before .before .before .before .before .before .before .before .before .before .before .before .before .before .before .before .before .if1 .taken) (c .before .before .before .before .before .before .before .before .before .before .before .before .before .before .conditional .ensures) (c .before .before .before .before .before .before .before .before .before .before .negation .ensures) (c .before .before .before .before .before .before .negation2 .ensures) (c .before .before .tollens .ensures)
+returns c =
+    let if1 = c .before .before .before .before .before .before .before .before .before .before .before .before .before .before .before .before .before .if1 in
+    let conditional = c .before .before .before .before .before .before .before .before .before .before .before .before .before .before .conditional in
+    let negation = c .before .before .before .before .before .before .before .before .before .before .negation in
+    let negation2 = c .before .before .before .before .before .before .negation2 in
+    refuted-false _ _ _ _ _ _ _ _ _ _ _ _ _ _ (if1 .taken) (conditional .ensures) (negation .ensures) (negation2 .ensures) (c .before .before .tollens .ensures)
 
--- src/lib.rt:1027:1
 returns-2 : tie.Need-returns-2
 returns-2 c = refuted-other _ _ _ _ _ _ (c .if1 .left)
 

@@ -6,15 +6,12 @@ use Rattle.deductions.proofs.sequel.Reads as reads
 use Rattle.deductions.proofs.sequel.Lts as lts
 use Rattle.tokens.proofs.sequence.Reads as sequence-reads
 
--- src/lib.rt:751:9
 sequence-requires : tie.Need-sequence-requires
 sequence-requires c κs = search needs
 
--- src/lib.rt:747:1
 same-length : tie.Need-same-length
 same-length c = search needs
 
--- src/lib.rt:747:1
 returns : tie.Need-returns
 returns c = (rw (c .before .before .before .sequence .ensures .0), c .before .before .before .sequence .ensures .1)
 

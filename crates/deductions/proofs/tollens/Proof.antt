@@ -8,25 +8,24 @@ use Rattle.deductions.proofs.tollens.Lts as lts
 use Rattle.tokens.proofs.rule.Reads as rule-reads
 use Rattle.tokens.proofs.sequence.Reads as sequence-reads
 
--- src/lib.rt:1064:9
 sequence-requires : tie.Need-sequence-requires
 sequence-requires c κs = search needs
 
--- src/lib.rt:1065:9
 rule-requires : tie.Need-rule-requires
 rule-requires c κs = search needs
 
--- src/lib.rt:1066:5
 rule-requires-2 : tie.Need-rule-requires-2
 rule-requires-2 c κs = search needs
 
--- src/lib.rt:1060:1
 same-length : tie.Need-same-length
 same-length c = search needs
 
--- src/lib.rt:1060:1
 returns : tie.Need-returns
-returns c = tollens-told _ _ _ _ _ _ _ _ _ _ (c .before .before .before .before .before .before .before .before .before .before .before .before .before .pre .0) (c .before .before .before .before .before .before .before .before .before .before .sequence .ensures) (c .before .before .before .before .before .before .rule .ensures) (c .before .before .rule2 .ensures)
+returns c =
+    let start = c .before .before .before .before .before .before .before .before .before .before .before .before .before in
+    let sequence = c .before .before .before .before .before .before .before .before .before .before .sequence in
+    let rule = c .before .before .before .before .before .before .rule in
+    tollens-told _ _ _ _ _ _ _ _ _ _ (start .pre .0) (sequence .ensures) (rule .ensures) (c .before .before .rule2 .ensures)
 
 pub tollens-spec : {M : Type 1} → statement M
 tollens-spec =

@@ -6,15 +6,12 @@ use Rattle.deductions.proofs.with.Reads as reads
 use Rattle.deductions.proofs.with.Lts as lts
 use Rattle.expressions.proofs.bind_value.Reads as bind-value-reads
 
--- src/lib.rt:765:9
 bind-value-requires : tie.Need-bind-value-requires
 bind-value-requires c κs = search needs
 
--- src/lib.rt:760:1
 same-length : tie.Need-same-length
 same-length c = search needs
 
--- src/lib.rt:760:1
 returns : tie.Need-returns
 returns c = (rw (c .before .before .bind-value .ensures .0), c .before .before .bind-value .ensures .1)
 

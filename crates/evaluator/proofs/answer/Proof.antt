@@ -26,11 +26,14 @@ enum-known-c c = search needs
 
 run-requires : tie.Need-run-requires
 run-requires c κs =
-    let fixed = c .before .before .before .before .before .before .before .before .before .before .before .before .before .before .before .before .before .before .before .before .before .before .before .before .before .before .before .before .before .before .before .before .before .before .before .before .pre in
-    sheet-roots _ _ _ _ _ _ _ _ _ _ _ _ (c .before .before .before .before .before .before .before .before .before .before .before .before .before .before .before .before .before .before .before .before .before .read-sheet .ensures) _ (c .before .before .before .before .before .before .before .before .before .before .before .before .before .before .before .before .before .before .before .before .before .before .before .before .before .before .before .before .before .before .before .before .before .before .before .before .pre .1) _ _ _ (c .before .before .before .before .before .before .before .before .before .c .given .1)
-    ((c .before .before .before .before .before .before .before .before .before .before .before .before .before .before .before .before .before .before .before .before .before .read-sheet .kept .1 .0) ∙ ap (λ (l : List ℕ). getD l 1 0) (fixed .0)) (ap (λ (l : List ℕ). getD l 5 0) (fixed .0)) (ap (λ (l : List ℕ). getD l 6 0) (fixed .0))
-    ((c .before .before .before .before .before .before .before .before .before .before .before .before .before .before .before .before .before .before .before .before .before .read-sheet .kept .1 .1 .1 .1 .0) ∙ ap (λ (l : List ℕ). getD l 4 0) (fixed .0)) ((c .before .before .before .before .before .before .before .before .before .before .before .before .before .before .before .before .before .before .before .before .before .read-sheet .kept .1 .1 .1 .0) ∙ ap (λ (l : List ℕ). getD l 3 0) (fixed .0)) ((c .before .before .before .before .before .before .before .before .before .before .before .before .before .before .before .before .before .before .before .before .before .read-sheet .kept .1 .1 .0) ∙ ap (λ (l : List ℕ). getD l 2 0) (fixed .0)) (c .before .before .before .before .before .before .before .before .before .before .before .before .before .before .before .before .before .before .before .before .before .read-sheet .kept .1 .1 .1 .0) (c .before .before .before .before .before .before .before .before .before .before .before .before .before .before .before .before .before .before .before .before .before .read-sheet .kept .1 .1 .0)
-    _ ((c .before .before .before .before .before .before .before .before .before .before .before .before .before .before .before .before .before .before .before .before .before .read-sheet .kept .0) ∙ ap (λ (l : List ℕ). getD l 0 0) (fixed .0))
+    let start = c .before .before .before .before .before .before .before .before .before .before .before .before .before .before .before .before .before .before .before .before .before .before .before .before .before .before .before .before .before .before .before .before .before .before .before .before in
+    let read-sheet = c .before .before .before .before .before .before .before .before .before .before .before .before .before .before .before .before .before .before .before .before .before .read-sheet in
+    let c′ = c .before .before .before .before .before .before .before .before .before .c in
+    let fixed = start .pre in
+    sheet-roots _ _ _ _ _ _ _ _ _ _ _ _ (read-sheet .ensures) _ (start .pre .1) _ _ _ (c′ .given .1)
+    ((read-sheet .kept .1 .0) ∙ ap (λ (l : List ℕ). getD l 1 0) (fixed .0)) (ap (λ (l : List ℕ). getD l 5 0) (fixed .0)) (ap (λ (l : List ℕ). getD l 6 0) (fixed .0))
+    ((read-sheet .kept .1 .1 .1 .1 .0) ∙ ap (λ (l : List ℕ). getD l 4 0) (fixed .0)) ((read-sheet .kept .1 .1 .1 .0) ∙ ap (λ (l : List ℕ). getD l 3 0) (fixed .0)) ((read-sheet .kept .1 .1 .0) ∙ ap (λ (l : List ℕ). getD l 2 0) (fixed .0)) (read-sheet .kept .1 .1 .1 .0) (read-sheet .kept .1 .1 .0)
+    _ ((read-sheet .kept .0) ∙ ap (λ (l : List ℕ). getD l 0 0) (fixed .0))
 
 same-length : tie.Need-same-length
 same-length c = search needs
@@ -48,7 +51,10 @@ same-length-5 : tie.Need-same-length-5
 same-length-5 c = search needs
 
 returns : tie.Need-returns
-returns c = sheet-stops _ _ _ _ _ _ _ _ _ _ _ _ (c .before .before .before .before .before .before .before .before .before .before .before .before .before .read-sheet .ensures) _ (c .before .before .before .before .before .before .before .before .before .before .before .before .before .before .before .before .before .before .before .before .before .before .before .before .before .before .before .before .pre .1) _ _ (c .before .why .given .1) _
+returns c =
+    let start = c .before .before .before .before .before .before .before .before .before .before .before .before .before .before .before .before .before .before .before .before .before .before .before .before .before .before .before .before in
+    let read-sheet = c .before .before .before .before .before .before .before .before .before .before .before .before .before .read-sheet in
+    sheet-stops _ _ _ _ _ _ _ _ _ _ _ _ (read-sheet .ensures) _ (start .pre .1) _ _ (c .before .why .given .1) _
 
 same-length-6 : tie.Need-same-length-6
 same-length-6 c = search needs
@@ -76,11 +82,15 @@ same-length-13 c = search needs
 
 returns-2 : tie.Need-returns-2
 returns-2 c =
-    let fixed = c .before .before .before .before .before .before .before .before .before .before .before .before .before .before .before .before .before .before .before .before .before .before .before .before .before .before .before .before .before .before .before .before .before .before .before .before .before .before .before .before .before .before .before .before .before .before .before .before .before .pre in
-    sheet-goes-on _ _ _ _ _ _ _ _ _ _ _ _ (c .before .before .before .before .before .before .before .before .before .before .before .before .before .before .before .before .before .before .before .before .before .before .before .before .before .before .before .before .before .before .before .before .before .before .read-sheet .ensures) _ (c .before .before .before .before .before .before .before .before .before .before .before .before .before .before .before .before .before .before .before .before .before .before .before .before .before .before .before .before .before .before .before .before .before .before .before .before .before .before .before .before .before .before .before .before .before .before .before .before .before .pre .1) _ _ _ (c .before .before .before .before .before .before .before .before .before .before .before .before .before .before .before .before .before .before .before .before .before .before .c .given .1)
-    ((c .before .before .before .before .before .before .before .before .before .before .before .before .before .before .before .before .before .before .before .before .before .before .before .before .before .before .before .before .before .before .before .before .before .before .read-sheet .kept .1 .0) ∙ ap (λ (l : List ℕ). getD l 1 0) (fixed .0)) (ap (λ (l : List ℕ). getD l 5 0) (fixed .0)) (ap (λ (l : List ℕ). getD l 6 0) (fixed .0))
-    ((c .before .before .before .before .before .before .before .before .before .before .before .before .before .before .before .before .before .before .before .before .before .before .before .before .before .before .before .before .before .before .before .before .before .before .read-sheet .kept .1 .1 .1 .1 .0) ∙ ap (λ (l : List ℕ). getD l 4 0) (fixed .0)) ((c .before .before .before .before .before .before .before .before .before .before .before .before .before .before .before .before .before .before .before .before .before .before .before .before .before .before .before .before .before .before .before .before .before .before .read-sheet .kept .1 .1 .1 .0) ∙ ap (λ (l : List ℕ). getD l 3 0) (fixed .0)) ((c .before .before .before .before .before .before .before .before .before .before .before .before .before .before .before .before .before .before .before .before .before .before .before .before .before .before .before .before .before .before .before .before .before .before .read-sheet .kept .1 .1 .0) ∙ ap (λ (l : List ℕ). getD l 2 0) (fixed .0)) (c .before .before .before .before .before .before .before .before .before .before .before .before .before .before .before .before .before .before .before .before .before .before .before .before .before .before .before .before .before .before .before .before .before .before .read-sheet .kept .1 .1 .1 .0) (c .before .before .before .before .before .before .before .before .before .before .before .before .before .before .before .before .before .before .before .before .before .before .before .before .before .before .before .before .before .before .before .before .before .before .read-sheet .kept .1 .1 .0)
-    _ _ _ (c .before .before .before .before .before .before .before .before .before .before .before .before .run .ensures)
+    let start = c .before .before .before .before .before .before .before .before .before .before .before .before .before .before .before .before .before .before .before .before .before .before .before .before .before .before .before .before .before .before .before .before .before .before .before .before .before .before .before .before .before .before .before .before .before .before .before .before .before in
+    let read-sheet = c .before .before .before .before .before .before .before .before .before .before .before .before .before .before .before .before .before .before .before .before .before .before .before .before .before .before .before .before .before .before .before .before .before .before .read-sheet in
+    let c′ = c .before .before .before .before .before .before .before .before .before .before .before .before .before .before .before .before .before .before .before .before .before .before .c in
+    let run = c .before .before .before .before .before .before .before .before .before .before .before .before .run in
+    let fixed = start .pre in
+    sheet-goes-on _ _ _ _ _ _ _ _ _ _ _ _ (read-sheet .ensures) _ (start .pre .1) _ _ _ (c′ .given .1)
+    ((read-sheet .kept .1 .0) ∙ ap (λ (l : List ℕ). getD l 1 0) (fixed .0)) (ap (λ (l : List ℕ). getD l 5 0) (fixed .0)) (ap (λ (l : List ℕ). getD l 6 0) (fixed .0))
+    ((read-sheet .kept .1 .1 .1 .1 .0) ∙ ap (λ (l : List ℕ). getD l 4 0) (fixed .0)) ((read-sheet .kept .1 .1 .1 .0) ∙ ap (λ (l : List ℕ). getD l 3 0) (fixed .0)) ((read-sheet .kept .1 .1 .0) ∙ ap (λ (l : List ℕ). getD l 2 0) (fixed .0)) (read-sheet .kept .1 .1 .1 .0) (read-sheet .kept .1 .1 .0)
+    _ _ _ (run .ensures)
 
 pub answer-spec : {M : Type 1} → statement M
 answer-spec =

@@ -1,5 +1,5 @@
 -- `evaluator::certify` meets its contract: what was written, or that there is no room for it.
-use mathlib.Core.Path.{sym, ap, _∙_}
+use mathlib.Core.Path.{sym, ap}
 use Rattle.evaluator.proofs.Certifying.{told, certifies}
 use borrow.Author.Needs.{needs}
 use Rattle.evaluator.proofs.certify.Statement.{statement}

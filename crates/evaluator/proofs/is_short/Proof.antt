@@ -1,7 +1,8 @@
 -- `evaluator::is_short` meets its contract: the first test that holds names a buffer that is short; where none does, all are long enough.
 use native.Mathlib.Omega.{arith}
 use mathlib.Core.Path.{sym}
-use Rattle.evaluator.proofs.Scratch.{short-at, seven-enough}
+use Rattle.theorems.proofs.Buffers.{short-at}
+use Rattle.evaluator.proofs.Scratch.{seven-enough}
 use Rattle.evaluator.proofs.is_short.Statement.{statement}
 use Rattle.evaluator.proofs.is_short.Tie as tie
 
@@ -28,7 +29,8 @@ returns-7 c = sym (short-at _ _ 6 (omega arith) (c .if7 .taken))
 
 returns-8 : tie.Need-returns-8
 returns-8 c =
-    sym (seven-enough _ _ _ _ _ _ _ (c .before .before .before .before .before .before .if1 .left) (c .before .before .before .before .before .if2 .left) (c .before .before .before .before .if3 .left) (c .before .before .before .if4 .left) (c .before .before .if5 .left) (c .before .if6 .left) (c .if7 .left))
+    let if1 = c .before .before .before .before .before .before .if1 in
+    sym (seven-enough _ _ _ _ _ _ _ (if1 .left) (c .before .before .before .before .before .if2 .left) (c .before .before .before .before .if3 .left) (c .before .before .before .if4 .left) (c .before .before .if5 .left) (c .before .if6 .left) (c .if7 .left))
 
 pub is-short-spec : {M : Type 1} → statement M
 is-short-spec = tie.close (tie.spec returns returns-2 returns-3 returns-4 returns-5 returns-6 returns-7 returns-8)

@@ -17,7 +17,9 @@ enum-known-p c = search needs
 
 certify-requires : tie.Need-certify-requires
 certify-requires c κs =
-    run-ends _ _ _ _ _ refl (c .before .before .before .before .before .before .before .before .before .before .before .before .before .before .before .before .before .before .before .before .before .before .before .before .before .before .before .before .pre) _ _ _ _ _ (c .before .before .before .before .before .before .before .before .before .before .before .before .before .before .before .deduce .ensures) _ _ (c .before .before .before .before .before .p .given .1)
+    let start = c .before .before .before .before .before .before .before .before .before .before .before .before .before .before .before .before .before .before .before .before .before .before .before .before .before .before .before .before in
+    let deduce = c .before .before .before .before .before .before .before .before .before .before .before .before .before .before .before .deduce in
+    run-ends _ _ _ _ _ refl (start .pre) _ _ _ _ _ (deduce .ensures) _ _ (c .before .before .before .before .before .p .given .1)
 
 enum-known-why : tie.Need-enum-known-why
 enum-known-why c = search needs
@@ -42,7 +44,10 @@ same-length-6 c = search needs
 
 returns : tie.Need-returns
 returns c =
-    run-gives _ _ _ _ _ refl (c .before .before .before .before .before .before .before .before .before .before .before .before .before .before .before .before .before .before .before .before .before .before .before .before .before .before .before .before .before .before .before .before .before .pre) _ _ _ _ _ (c .before .before .before .before .before .before .before .before .before .before .before .before .before .before .before .before .before .before .before .before .deduce .ensures) _ _ (c .before .before .before .before .before .before .before .before .before .before .p .given .1) _ _ _ (c .before .before .before .before .certify .ensures)
+    let start = c .before .before .before .before .before .before .before .before .before .before .before .before .before .before .before .before .before .before .before .before .before .before .before .before .before .before .before .before .before .before .before .before .before in
+    let deduce = c .before .before .before .before .before .before .before .before .before .before .before .before .before .before .before .before .before .before .before .before .deduce in
+    let p = c .before .before .before .before .before .before .before .before .before .before .p in
+    run-gives _ _ _ _ _ refl (start .pre) _ _ _ _ _ (deduce .ensures) _ _ (p .given .1) _ _ _ (c .before .before .before .before .certify .ensures)
 
 same-length-7 : tie.Need-same-length-7
 same-length-7 c = search needs
@@ -58,7 +63,9 @@ same-length-10 c = search needs
 
 returns-2 : tie.Need-returns-2
 returns-2 c =
-    run-stops _ _ _ _ _ refl (c .before .before .before .before .before .before .before .before .before .before .before .before .before .before .before .before .before .before .before .before .before .before .before .before .pre) _ _ _ _ _ (c .before .before .before .before .before .before .before .before .before .before .before .deduce .ensures) _ _ (c .before .why .given .1) _
+    let start = c .before .before .before .before .before .before .before .before .before .before .before .before .before .before .before .before .before .before .before .before .before .before .before .before in
+    let deduce = c .before .before .before .before .before .before .before .before .before .before .before .deduce in
+    run-stops _ _ _ _ _ refl (start .pre) _ _ _ _ _ (deduce .ensures) _ _ (c .before .why .given .1) _
 
 pub run-spec : {M : Type 1} → statement M
 run-spec =

@@ -5,11 +5,9 @@ use Rattle.expressions.proofs.closure.Tie as tie
 use Rattle.expressions.proofs.closure.Reads as reads
 use Rattle.expressions.proofs.closure.Lts as lts
 
--- src/lib.rt:385:9
 returns : tie.Need-returns
 returns c = search closure-method
 
--- src/lib.rt:377:1
 returns-2 : tie.Need-returns-2
 returns-2 c = search closure-function
 

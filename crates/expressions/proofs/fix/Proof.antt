@@ -14,33 +14,27 @@ use Rattle.expressions.proofs.bind_value.Reads as bind-value-reads
 use Rattle.expressions.proofs.closure.Reads as closure-reads
 use Rattle.words.proofs.at.Reads as at-reads
 
--- src/lib.rt:372:35
 mul-at : tie.Need-mul-at
 mul-at c = search needs
 
--- src/lib.rt:372:9
 at-requires : tie.Need-at-requires
 at-requires c κs = search needs
 
--- src/lib.rt:373:34
 add-closure : tie.Need-add-closure
 add-closure c = search needs
 
--- src/lib.rt:373:9
 closure-requires : tie.Need-closure-requires
 closure-requires c κs = search needs
 
--- src/lib.rt:374:26
 bind-value-requires : tie.Need-bind-value-requires
 bind-value-requires c κs =
-    let pre = c .before .before .before .before .before .before .pre in
-    (omega (arith, pre), omega (arith, pre), record { value = subst SmallValue (sym (c .before .closure .ensures)) (closed-small (sortOf (c .before .before .before .at .result)) (c .before .before .before .before .before .before .args .a) (c .before .before .before .before .before .before .args .st .bindings + 1) (omega (arith, pre)) (omega (arith, pre))); next = omega (arith, pre) })
+    let start = c .before .before .before .before .before .before in
+    let pre = start .pre in
+    (omega (arith, pre), omega (arith, pre), record { value = subst SmallValue (sym (c .before .closure .ensures)) (closed-small (sortOf (c .before .before .before .at .result)) (start .args .a) (start .args .st .bindings + 1) (omega (arith, pre)) (omega (arith, pre))); next = omega (arith, pre) })
 
--- src/lib.rt:367:1
 same-length : tie.Need-same-length
 same-length c = search needs
 
--- src/lib.rt:367:1
 returns : tie.Need-returns
 returns c = rw (c .before .before .bind-value .ensures .0, c .before .before .bind-value .ensures .1, c .before .before .before .before .closure .ensures, c .before .before .before .before .before .before .at .ensures) (refl, refl)
 

@@ -5,43 +5,33 @@ use Rattle.expressions.proofs.part.Tie as tie
 use Rattle.expressions.proofs.part.Reads as reads
 use Rattle.expressions.proofs.part.Lts as lts
 
--- src/lib.rt:455:21
 enum-known-v : tie.Need-enum-known-v
 enum-known-v c = search needs
 
--- src/lib.rt:456:28
 enum-known-v-2 : tie.Need-enum-known-v-2
 enum-known-v-2 c = search needs
 
--- src/lib.rt:457:21
 enum-known-v-3 : tie.Need-enum-known-v-3
 enum-known-v-3 c = search needs
 
--- src/lib.rt:458:25
 enum-known-v-4 : tie.Need-enum-known-v-4
 enum-known-v-4 c = search needs
 
--- src/lib.rt:459:23
 enum-known-v-5 : tie.Need-enum-known-v-5
 enum-known-v-5 c = search needs
 
--- src/lib.rt:451:1
 returns : tie.Need-returns
 returns c = rw (c .before .v .given .1)
 
--- src/lib.rt:451:1
 returns-2 : tie.Need-returns-2
 returns-2 c = search needs
 
--- src/lib.rt:451:1
 returns-3 : tie.Need-returns-3
 returns-3 c = search needs
 
--- src/lib.rt:451:1
 returns-4 : tie.Need-returns-4
 returns-4 c = search needs
 
--- src/lib.rt:451:1
 returns-5 : tie.Need-returns-5
 returns-5 c = search needs
 

@@ -11,73 +11,69 @@ use Rattle.expressions.proofs.fix.Reads as fix-reads
 use Rattle.expressions.proofs.variable.Reads as variable-reads
 use Rattle.words.proofs.at.Reads as at-reads
 
--- src/lib.rt:318:35
 mul-at : tie.Need-mul-at
 mul-at c = let r = ready-small _ _ _ _ _ _ (c .before .before .pre .0 .2) in omega (arith, r)
 
--- src/lib.rt:318:9
 at-requires : tie.Need-at-requires
 at-requires c κs = search needs
 
--- src/lib.rt:319:32
 mul-at-2 : tie.Need-mul-at-2
 mul-at-2 c = let r = ready-small _ _ _ _ _ _ (c .before .before .before .pre .0 .2) in omega (arith, r)
 
--- src/lib.rt:319:32
 add-at : tie.Need-add-at
 add-at c = let r = ready-small _ _ _ _ _ _ (c .before .before .before .pre .0 .2) in omega (arith, r)
 
--- src/lib.rt:319:9
 at-requires-2 : tie.Need-at-requires-2
 at-requires-2 c κs = search needs
 
--- src/lib.rt:321:9
 returns : tie.Need-returns
 returns c = λ f q d. proposition _ _ _ _ _ _ _ (c .before .before .at .ensures) (c .before .at2 .ensures) (c .if1 .taken)
 
--- src/lib.rt:324:9
 variable-requires : tie.Need-variable-requires
 variable-requires c κs = linked _ _ _ _ _ _ (c .before .before .before .before .before .before .before .pre .0 .2)
 
--- src/lib.rt:324:9
 same-length : tie.Need-same-length
 same-length c = search needs
 
--- src/lib.rt:324:9
 returns-2 : tie.Need-returns-2
 returns-2 c = λ f q d. variable-is _ _ _ _ _ _ _ _ (c .before .before .before .before .before .at .ensures) (c .before .before .before .before .at2 .ensures) (c .before .before .if2 .taken) (c .variable .ensures)
 
--- src/lib.rt:327:9
 returns-3 : tie.Need-returns-3
 returns-3 c = λ f q d. constructor _ _ _ _ _ _ _ (c .before .before .before .before .at .ensures) (c .before .before .before .at2 .ensures) (c .if3 .taken)
 
--- src/lib.rt:330:9
 returns-4 : tie.Need-returns-4
 returns-4 c = λ f q d. ruled _ _ _ _ _ _ _ (c .before .before .before .before .before .at .ensures) (c .before .before .before .before .at2 .ensures) (c .if4 .taken)
 
--- src/lib.rt:333:9
 fix-requires : tie.Need-fix-requires
-fix-requires c κs = fix-asks _ _ _ _ _ _ (c .before .before .before .before .before .before .before .before .before .before .pre .0 .2) (c .before .before .before .before .before .before .before .at .ensures) (c .before .before .before .before .before .before .at2 .ensures) (c .before .if5 .taken)
+fix-requires c κs =
+    let start = c .before .before .before .before .before .before .before .before .before .before in
+    let at1 = c .before .before .before .before .before .before .before .at in
+    let at2 = c .before .before .before .before .before .before .at2 in
+    fix-asks _ _ _ _ _ _ (start .pre .0 .2) (at1 .ensures) (at2 .ensures) (c .before .if5 .taken)
 
--- src/lib.rt:333:9
 same-length-2 : tie.Need-same-length-2
 same-length-2 c = search needs
 
--- src/lib.rt:333:9
 returns-5 : tie.Need-returns-5
-returns-5 c = λ f q d.
-    let z = fix-asks _ _ _ _ _ _ (c .before .before .before .before .before .before .before .before .before .before .before .before .before .pre .0 .2) (c .before .before .before .before .before .before .before .before .before .before .at .ensures) (c .before .before .before .before .before .before .before .before .before .at2 .ensures) (c .before .before .before .before .if5 .taken) in
-    fix-is _ _ _ _ _ _ _ _ _ (c .before .before .before .before .before .before .before .before .before .before .at .ensures) (c .before .before .before .before .before .before .before .before .before .at2 .ensures) (c .before .before .before .before .if5 .taken) (z .0) (c .before .before .fix .ensures .0) (c .before .before .fix .ensures .1)
+returns-5 c =
+    let start = c .before .before .before .before .before .before .before .before .before .before .before .before .before in
+    let at1 = c .before .before .before .before .before .before .before .before .before .before .at in
+    let at2 = c .before .before .before .before .before .before .before .before .before .at2 in
+    let if5 = c .before .before .before .before .if5 in
+    λ f q d.
+    let z = fix-asks _ _ _ _ _ _ (start .pre .0 .2) (at1 .ensures) (at2 .ensures) (if5 .taken) in
+    fix-is _ _ _ _ _ _ _ _ _ (at1 .ensures) (at2 .ensures) (if5 .taken) (z .0) (c .before .before .fix .ensures .0) (c .before .before .fix .ensures .1)
 
--- src/lib.rt:335:19
 closure-requires : tie.Need-closure-requires
 closure-requires c κs = search needs
 
--- src/lib.rt:313:1
 returns-6 : tie.Need-returns-6
-returns-6 c = λ f q d.
-    let p = c .before .before .before .before .before .before .before .before .before .before .pre in
-    closure-is _ _ _ _ _ _ _ (c .before .before .before .before .before .before .before .at .ensures) (c .before .before .before .before .before .if1 .left) (c .before .before .before .before .if2 .left) (c .before .before .before .if3 .left) (c .before .before .if4 .left) (c .before .if5 .left) (p .1 .0) (p .1 .1) (p .1 .2) (c .closure .ensures)
+returns-6 c =
+    let start = c .before .before .before .before .before .before .before .before .before .before in
+    let at1 = c .before .before .before .before .before .before .before .at in
+    λ f q d.
+    let p = start .pre in
+    closure-is _ _ _ _ _ _ _ (at1 .ensures) (c .before .before .before .before .before .if1 .left) (c .before .before .before .before .if2 .left) (c .before .before .before .if3 .left) (c .before .before .if4 .left) (c .before .if5 .left) (p .1 .0) (p .1 .1) (p .1 .2) (c .closure .ensures)
 
 pub plain-spec : {M : Type 1} → statement M
 plain-spec =

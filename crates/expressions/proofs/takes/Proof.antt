@@ -5,11 +5,9 @@ use Rattle.expressions.proofs.takes.Tie as tie
 use Rattle.expressions.proofs.takes.Reads as reads
 use Rattle.expressions.proofs.takes.Lts as lts
 
--- src/lib.rt:445:9
 returns : tie.Need-returns
 returns c = search takes-one
 
--- src/lib.rt:441:1
 returns-2 : tie.Need-returns-2
 returns-2 c = search takes-two
 

@@ -7,23 +7,18 @@ use Rattle.expressions.proofs.variable.Reads as reads
 use Rattle.expressions.proofs.variable.Lts as lts
 use Rattle.bindings.proofs.lookup.Reads as lookup-reads
 
--- src/lib.rt:343:11
 lookup-requires : tie.Need-lookup-requires
 lookup-requires c κs = search needs
 
--- src/lib.rt:344:22
 enum-known-v : tie.Need-enum-known-v
 enum-known-v c = search needs
 
--- src/lib.rt:345:24
 enum-told : tie.Need-enum-told
 enum-told c = search needs
 
--- src/lib.rt:339:1
 returns : tie.Need-returns
 returns c = bound-is _ _ _ _ _ (c .before .before .before .lookup .ensures) (c .before .v .given .1)
 
--- src/lib.rt:339:1
 returns-2 : tie.Need-returns-2
 returns-2 c = free-is _ _ _ _ (c .before .before .lookup .ensures) (c .enum-told .given .1)
 

@@ -27,7 +27,9 @@ at-requires : tie.Need-at-requires Inv-loop μ-loop
 at-requires c κs = search needs
 
 returns : tie.Need-returns Inv-loop μ-loop
-returns c = passed-hit _ (c .before .before .before .before .before .before .args .n) (c .before .before .before .before .before .before .args .t .now) _ (c .before .before .before .before .count .ensures) _ (c .before .before .before .loop .inv) (c .before .before .loop-test .taken) (sym (c .before .at .ensures) ∙ c .if1 .taken)
+returns c =
+    let start = c .before .before .before .before .before .before in
+    passed-hit _ (start .args .n) (start .args .t .now) _ (c .before .before .before .before .count .ensures) _ (c .before .before .before .loop .inv) (c .before .before .loop-test .taken) (sym (c .before .at .ensures) ∙ c .if1 .taken)
 
 add-i : tie.Need-add-i Inv-loop μ-loop
 add-i c = search needs
@@ -36,7 +38,9 @@ loop-less : tie.Need-loop-less Inv-loop μ-loop
 loop-less c = search needs
 
 loop-again : tie.Need-loop-again Inv-loop μ-loop
-loop-again c = passed-more _ (c .before .before .before .before .before .before .args .n) (c .before .before .before .before .before .before .args .t .now) _ (c .before .before .before .before .count .ensures) _ (c .before .before .before .loop .inv) (c .before .before .loop-test .taken) (λ e. c .if1 .left (c .before .at .ensures ∙ e))
+loop-again c =
+    let start = c .before .before .before .before .before .before in
+    passed-more _ (start .args .n) (start .args .t .now) _ (c .before .before .before .before .count .ensures) _ (c .before .before .before .loop .inv) (c .before .before .loop-test .taken) (λ e. c .if1 .left (c .before .at .ensures ∙ e))
 
 returns-2 : tie.Need-returns-2 Inv-loop μ-loop
 returns-2 c = passed-all _ (c .before .before .before .before .args .n) (c .before .before .before .before .args .t .now) _ (c .before .before .count .ensures) _ (c .before .loop .inv) (c .loop-test .left)

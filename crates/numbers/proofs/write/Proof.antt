@@ -3,7 +3,8 @@ use mathlib.Core.Path.{refl}
 use native.Mathlib.Omega.{arith}
 use native.Mathlib.Numerals.{add-one, add-two}
 use lib.ListN.{length-set}
-use Rattle.numbers.proofs.Groups.{one-group, two-groups, three-groups, one-byte, two-bytes, three-bytes}
+use Rattle.theorems.proofs.Spelling.{one-group}
+use Rattle.numbers.proofs.Groups.{two-groups, three-groups, one-byte, two-bytes, three-bytes}
 use borrow.Author.Needs.{needs}
 use Rattle.numbers.proofs.write.Statement.{statement}
 use Rattle.numbers.proofs.write.Tie as tie

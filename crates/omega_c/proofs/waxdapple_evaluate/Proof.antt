@@ -43,7 +43,9 @@ same-length-8 c = search needs
 
 returns : tie.Need-returns
 unfolding evaluated
-returns c = record { answer = _; evaluates = c .before .before .before .before .before .before .before .before .before .before .before .before .before .before .before .before .before .before .before .evaluate .ensures; values-are = sym (ap evaluated (c .before .n .given .1)) }
+returns c =
+    let evaluate = c .before .before .before .before .before .before .before .before .before .before .before .before .before .before .before .before .before .before .before .evaluate in
+    record { answer = _; evaluates = evaluate .ensures; values-are = sym (ap evaluated (c .before .n .given .1)) }
 
 same-length-9 : tie.Need-same-length-9
 same-length-9 c = search needs
@@ -71,7 +73,9 @@ same-length-16 c = search needs
 
 returns-2 : tie.Need-returns-2
 unfolding evaluated
-returns-2 c = record { answer = _; evaluates = c .before .before .before .before .before .before .before .before .before .before .before .before .before .before .before .before .before .before .before .evaluate .ensures; values-are = sym (ap evaluated (c .before .why .given .1)) }
+returns-2 c =
+    let evaluate = c .before .before .before .before .before .before .before .before .before .before .before .before .before .before .before .before .before .before .before .evaluate in
+    record { answer = _; evaluates = evaluate .ensures; values-are = sym (ap evaluated (c .before .why .given .1)) }
 
 pub waxdapple-evaluate-spec : {M : Type 1} → statement M
 waxdapple-evaluate-spec =

@@ -23,67 +23,57 @@ choose-at t = and 3 choose-kinds.ps (is 3 choose-kinds.ps μ-choose t) choose.Pr
 abbrev choose-below : ℕ → In 3 choose-kinds.ps
 choose-below t = and 3 choose-kinds.ps (falls 3 choose-kinds.ps _<_ μ-choose t) choose.Pre
 
--- src/lib.rt:44:9
 choose-returns : (t : ℕ) → choose-lts.Need-returns (at-reads.Asked, at-reads.Learnt, nothing-reads.Asked, nothing-reads.Learnt, tried-reads.Asked, tried-reads.Learnt, choose-below t, choose.Post) (choose-at t) choose.Post
 choose-returns t c = none-left _ _ _ _ _ _ (c .if1 .taken)
 
--- src/lib.rt:46:9
 choose-at-requires : (t : ℕ) → choose-lts.Need-at-requires (at-reads.Asked, at-reads.Learnt, nothing-reads.Asked, nothing-reads.Learnt, tried-reads.Asked, tried-reads.Learnt, choose-below t, choose.Post) (choose-at t) choose.Post
 choose-at-requires t c κs = search needs
 
--- src/lib.rt:47:40
 choose-nothing-requires : (t : ℕ) → choose-lts.Need-nothing-requires (at-reads.Asked, at-reads.Learnt, nothing-reads.Asked, nothing-reads.Learnt, tried-reads.Asked, tried-reads.Learnt, choose-below t, choose.Post) (choose-at t) choose.Post
 choose-nothing-requires t c κs = search needs
 
--- src/lib.rt:47:11
 choose-tried-requires : (t : ℕ) → choose-lts.Need-tried-requires (at-reads.Asked, at-reads.Learnt, nothing-reads.Asked, nothing-reads.Learnt, tried-reads.Asked, tried-reads.Learnt, choose-below t, choose.Post) (choose-at t) choose.Post
 choose-tried-requires t c κs = rw (c .nothing .ensures) (first-tried _ _ _ _ _ _ _ (c .before .before .if1 .left) (c .before .at .ensures) (c .before .before .before .before .before .before .pre .1))
 
--- src/lib.rt:48:19
 choose-enum-known-parts : (t : ℕ) → choose-lts.Need-enum-known-parts (at-reads.Asked, at-reads.Learnt, nothing-reads.Asked, nothing-reads.Learnt, tried-reads.Asked, tried-reads.Learnt, choose-below t, choose.Post) (choose-at t) choose.Post
 choose-enum-known-parts t c = search needs
 
--- src/lib.rt:48:63
 choose-add-at : (t : ℕ) → choose-lts.Need-add-at (at-reads.Asked, at-reads.Learnt, nothing-reads.Asked, nothing-reads.Learnt, tried-reads.Asked, tried-reads.Learnt, choose-below t, choose.Post) (choose-at t) choose.Post
 choose-add-at t c =
     let x = c .before .before .before .before .before .before .before .before .before .before .pre .1 in
     let i = x .inside in
     let s = x .short in omega (arith, i, s, c .before .before .before .before .before .before .if1 .left)
 
--- src/lib.rt:48:44
 choose-at-requires-2 : (t : ℕ) → choose-lts.Need-at-requires-2 (at-reads.Asked, at-reads.Learnt, nothing-reads.Asked, nothing-reads.Learnt, tried-reads.Asked, tried-reads.Learnt, choose-below t, choose.Post) (choose-at t) choose.Post
 choose-at-requires-2 t c κs = search needs
 
--- src/lib.rt:49:57
 choose-enum-told : (t : ℕ) → choose-lts.Need-enum-told (at-reads.Asked, at-reads.Learnt, nothing-reads.Asked, nothing-reads.Learnt, tried-reads.Asked, tried-reads.Learnt, choose-below t, choose.Post) (choose-at t) choose.Post
 choose-enum-told t c = search needs
 
--- src/lib.rt:49:57
 choose-add-choose : (t : ℕ) → choose-lts.Need-add-choose (at-reads.Asked, at-reads.Learnt, nothing-reads.Asked, nothing-reads.Learnt, tried-reads.Asked, tried-reads.Learnt, choose-below t, choose.Post) (choose-at t) choose.Post
 choose-add-choose t c =
     let x = c .before .before .before .before .before .before .before .before .before .pre .1 in
     let i = x .inside in
     let s = x .short in omega (arith, i, s, c .before .before .before .before .before .if1 .left)
 
--- src/lib.rt:49:67
 choose-sub-choose : (t : ℕ) → choose-lts.Need-sub-choose (at-reads.Asked, at-reads.Learnt, nothing-reads.Asked, nothing-reads.Learnt, tried-reads.Asked, tried-reads.Learnt, choose-below t, choose.Post) (choose-at t) choose.Post
 choose-sub-choose t c = search needs
 
--- src/lib.rt:49:24
 choose-choose-requires : (t : ℕ) → choose-lts.Need-choose-requires (at-reads.Asked, at-reads.Learnt, nothing-reads.Asked, nothing-reads.Learnt, tried-reads.Asked, tried-reads.Learnt, choose-below t, choose.Post) (choose-at t) choose.Post
 choose-choose-requires t c κs =
     let pre = c .before .before .before .before .before .before .before .before .before .pre in
     (omega (arith, pre, c .before .before .before .before .before .if1 .left), others _ _ _ _ _ _ (c .before .before .before .before .before .if1 .left) (pre .1))
 
--- src/lib.rt:32:1
 choose-returns-2 : (t : ℕ) → choose-lts.Need-returns-2 (at-reads.Asked, at-reads.Learnt, nothing-reads.Asked, nothing-reads.Learnt, tried-reads.Asked, tried-reads.Learnt, choose-below t, choose.Post) (choose-at t) choose.Post
 choose-returns-2 t c =
-    first-fits _ _ _ _ _ _ _ _ _ (c .before .before .before .before .before .before .before .if1 .left) (c .before .before .before .before .before .before .at .ensures) (c .at2 .ensures) (rw (c .before .before .before .before .before .nothing .ensures, c .before .before .parts .given .1) at (c .before .before .before .before .tried .ensures))
+    let if1 = c .before .before .before .before .before .before .before .if1 in
+    let at1 = c .before .before .before .before .before .before .at in
+    first-fits _ _ _ _ _ _ _ _ _ (if1 .left) (at1 .ensures) (c .at2 .ensures) (rw (c .before .before .before .before .before .nothing .ensures, c .before .before .parts .given .1) at (c .before .before .before .before .tried .ensures))
 
--- src/lib.rt:32:1
 choose-returns-3 : (t : ℕ) → choose-lts.Need-returns-3 (at-reads.Asked, at-reads.Learnt, nothing-reads.Asked, nothing-reads.Learnt, tried-reads.Asked, tried-reads.Learnt, choose-below t, choose.Post) (choose-at t) choose.Post
 choose-returns-3 t c =
-    first-misses _ _ _ _ _ _ _ _ (c .before .before .before .before .before .before .if1 .left) (c .before .before .before .before .before .at .ensures) (rw (c .before .before .before .before .nothing .ensures, c .before .enum-told .given .1) at (c .before .before .before .tried .ensures)) (c .choose .ensures)
+    let if1 = c .before .before .before .before .before .before .if1 in
+    first-misses _ _ _ _ _ _ _ _ (if1 .left) (c .before .before .before .before .before .at .ensures) (rw (c .before .before .before .before .nothing .ensures, c .before .enum-told .given .1) at (c .before .before .before .tried .ensures)) (c .choose .ensures)
 
 pub +choose-spec : {M : Type 1} → statement M
 +choose-spec = close μ-choose λ t. choose-lts.spec (

@@ -27,119 +27,132 @@ tried-at t = and 2 tried-kinds.ps (is 2 tried-kinds.ps μ-tried t) tried.Pre
 abbrev tried-below : ℕ → In 2 tried-kinds.ps
 tried-below t = and 2 tried-kinds.ps (falls 2 tried-kinds.ps _<_ μ-tried t) tried.Pre
 
--- src/lib.rt:58:36
 tried-mul-at : (t : ℕ) → tried-lts.Need-mul-at (at-reads.Asked, at-reads.Learnt, extended-reads.Asked, extended-reads.Learnt, exact-reads.Asked, exact-reads.Learnt, kind-of-reads.Asked, kind-of-reads.Learnt, left-of-reads.Asked, left-of-reads.Learnt, tried-below t, tried.Post, right-of-reads.Asked, right-of-reads.Learnt) (tried-at t) tried.Post
 tried-mul-at t c = let s = pattern-small _ _ _ _ _ (c .before .before .pre .1) in omega (arith, s)
 
--- src/lib.rt:58:9
 tried-at-requires : (t : ℕ) → tried-lts.Need-at-requires (at-reads.Asked, at-reads.Learnt, extended-reads.Asked, extended-reads.Learnt, exact-reads.Asked, exact-reads.Learnt, kind-of-reads.Asked, kind-of-reads.Learnt, left-of-reads.Asked, left-of-reads.Learnt, tried-below t, tried.Post, right-of-reads.Asked, right-of-reads.Learnt) (tried-at t) tried.Post
 tried-at-requires t c κs = search needs
 
--- src/lib.rt:59:35
 tried-mul-at-2 : (t : ℕ) → tried-lts.Need-mul-at-2 (at-reads.Asked, at-reads.Learnt, extended-reads.Asked, extended-reads.Learnt, exact-reads.Asked, exact-reads.Learnt, kind-of-reads.Asked, kind-of-reads.Learnt, left-of-reads.Asked, left-of-reads.Learnt, tried-below t, tried.Post, right-of-reads.Asked, right-of-reads.Learnt) (tried-at t) tried.Post
 tried-mul-at-2 t c = let s = pattern-small _ _ _ _ _ (c .before .before .before .pre .1) in omega (arith, s)
 
--- src/lib.rt:59:35
 tried-add-at : (t : ℕ) → tried-lts.Need-add-at (at-reads.Asked, at-reads.Learnt, extended-reads.Asked, extended-reads.Learnt, exact-reads.Asked, exact-reads.Learnt, kind-of-reads.Asked, kind-of-reads.Learnt, left-of-reads.Asked, left-of-reads.Learnt, tried-below t, tried.Post, right-of-reads.Asked, right-of-reads.Learnt) (tried-at t) tried.Post
 tried-add-at t c = let s = pattern-small _ _ _ _ _ (c .before .before .before .pre .1) in omega (arith, s)
 
--- src/lib.rt:59:9
 tried-at-requires-2 : (t : ℕ) → tried-lts.Need-at-requires-2 (at-reads.Asked, at-reads.Learnt, extended-reads.Asked, extended-reads.Learnt, exact-reads.Asked, exact-reads.Learnt, kind-of-reads.Asked, kind-of-reads.Learnt, left-of-reads.Asked, left-of-reads.Learnt, tried-below t, tried.Post, right-of-reads.Asked, right-of-reads.Learnt) (tried-at t) tried.Post
 tried-at-requires-2 t c κs = search needs
 
--- src/lib.rt:61:26
 tried-extended-requires : (t : ℕ) → tried-lts.Need-extended-requires (at-reads.Asked, at-reads.Learnt, extended-reads.Asked, extended-reads.Learnt, exact-reads.Asked, exact-reads.Learnt, kind-of-reads.Asked, kind-of-reads.Learnt, left-of-reads.Asked, left-of-reads.Learnt, tried-below t, tried.Post, right-of-reads.Asked, right-of-reads.Learnt) (tried-at t) tried.Post
 tried-extended-requires t c κs = any-room _ _ _ _ _ (c .before .before .before .before .before .pre .1) _ (c .before .before .at .ensures) (c .if1 .taken)
 
--- src/lib.rt:61:9
 tried-returns : (t : ℕ) → tried-lts.Need-returns (at-reads.Asked, at-reads.Learnt, extended-reads.Asked, extended-reads.Learnt, exact-reads.Asked, exact-reads.Learnt, kind-of-reads.Asked, kind-of-reads.Learnt, left-of-reads.Asked, left-of-reads.Learnt, tried-below t, tried.Post, right-of-reads.Asked, right-of-reads.Learnt) (tried-at t) tried.Post
 tried-returns t c = any-fits _ _ _ _ _ _ _ (c .before .before .before .at .ensures) (c .before .if1 .taken) (c .extended .ensures)
 
--- src/lib.rt:64:9
 tried-exact-requires : (t : ℕ) → tried-lts.Need-exact-requires (at-reads.Asked, at-reads.Learnt, extended-reads.Asked, extended-reads.Learnt, exact-reads.Asked, exact-reads.Learnt, kind-of-reads.Asked, kind-of-reads.Learnt, left-of-reads.Asked, left-of-reads.Learnt, tried-below t, tried.Post, right-of-reads.Asked, right-of-reads.Learnt) (tried-at t) tried.Post
 tried-exact-requires t c κs = search needs
 
--- src/lib.rt:64:9
 tried-returns-2 : (t : ℕ) → tried-lts.Need-returns-2 (at-reads.Asked, at-reads.Learnt, extended-reads.Asked, extended-reads.Learnt, exact-reads.Asked, exact-reads.Learnt, kind-of-reads.Asked, kind-of-reads.Learnt, left-of-reads.Asked, left-of-reads.Learnt, tried-below t, tried.Post, right-of-reads.Asked, right-of-reads.Learnt) (tried-at t) tried.Post
 tried-returns-2 t c = exact-fits _ _ _ _ _ _ _ _ (c .before .before .before .before .at .ensures) (c .before .before .before .at2 .ensures) (c .before .if2 .taken) (c .exact .ensures)
 
--- src/lib.rt:66:9
 tried-at-requires-3 : (t : ℕ) → tried-lts.Need-at-requires-3 (at-reads.Asked, at-reads.Learnt, extended-reads.Asked, extended-reads.Learnt, exact-reads.Asked, exact-reads.Learnt, kind-of-reads.Asked, kind-of-reads.Learnt, left-of-reads.Asked, left-of-reads.Learnt, tried-below t, tried.Post, right-of-reads.Asked, right-of-reads.Learnt) (tried-at t) tried.Post
 tried-at-requires-3 t c κs = search needs
 
--- src/lib.rt:67:8
 tried-kind-of-requires : (t : ℕ) → tried-lts.Need-kind-of-requires (at-reads.Asked, at-reads.Learnt, extended-reads.Asked, extended-reads.Learnt, exact-reads.Asked, exact-reads.Learnt, kind-of-reads.Asked, kind-of-reads.Learnt, left-of-reads.Asked, left-of-reads.Learnt, tried-below t, tried.Post, right-of-reads.Asked, right-of-reads.Learnt) (tried-at t) tried.Post
 tried-kind-of-requires t c κs = search needs
 
--- src/lib.rt:67:29
 tried-add-if3 : (t : ℕ) → tried-lts.Need-add-if3 (at-reads.Asked, at-reads.Learnt, extended-reads.Asked, extended-reads.Learnt, exact-reads.Asked, exact-reads.Learnt, kind-of-reads.Asked, kind-of-reads.Learnt, left-of-reads.Asked, left-of-reads.Learnt, tried-below t, tried.Post, right-of-reads.Asked, right-of-reads.Learnt) (tried-at t) tried.Post
 tried-add-if3 t c = let s = kind-small _ _ _ _ _ (c .before .before .before .before .before .before .before .before .pre .1) _ (c .before .before .before .before .before .at .ensures) in omega (arith, s)
 
--- src/lib.rt:68:50
 tried-left-of-requires : (t : ℕ) → tried-lts.Need-left-of-requires (at-reads.Asked, at-reads.Learnt, extended-reads.Asked, extended-reads.Learnt, exact-reads.Asked, exact-reads.Learnt, kind-of-reads.Asked, kind-of-reads.Learnt, left-of-reads.Asked, left-of-reads.Learnt, tried-below t, tried.Post, right-of-reads.Asked, right-of-reads.Learnt) (tried-at t) tried.Post
 tried-left-of-requires t c κs = search needs
 
--- src/lib.rt:68:22
 tried-tried-requires : (t : ℕ) → tried-lts.Need-tried-requires (at-reads.Asked, at-reads.Learnt, extended-reads.Asked, extended-reads.Learnt, exact-reads.Asked, exact-reads.Learnt, kind-of-reads.Asked, kind-of-reads.Learnt, left-of-reads.Asked, left-of-reads.Learnt, tried-below t, tried.Post, right-of-reads.Asked, right-of-reads.Learnt) (tried-at t) tried.Post
 tried-tried-requires t c κs =
-    let pre = c .before .before .before .before .before .before .before .before .before .before .pre in
-    let low = left-low _ _ _ _ _ _ _ _ _ _ (c .before .before .before .before .before .before .before .at .ensures) (c .before .before .before .before .before .before .at2 .ensures) (c .before .before .before .at3 .ensures) (c .before .before .kind-of .ensures) (c .left-of .ensures) (c .before .before .before .before .before .if1 .left) (c .before .before .before .before .if2 .left) (pre .1) in
-    (omega (arith, pre, low), left-tried _ _ _ _ _ _ _ _ _ _ (c .before .before .before .before .before .before .before .at .ensures) (c .before .before .before .before .before .before .at2 .ensures) (c .before .before .before .at3 .ensures) (c .before .before .kind-of .ensures) (c .left-of .ensures) (c .before .before .before .before .before .if1 .left) (c .before .before .before .before .if2 .left) (c .before .if3 .taken) (pre .1))
+    let start = c .before .before .before .before .before .before .before .before .before .before in
+    let at1 = c .before .before .before .before .before .before .before .at in
+    let at2 = c .before .before .before .before .before .before .at2 in
+    let if1 = c .before .before .before .before .before .if1 in
+    let if2 = c .before .before .before .before .if2 in
+    let at3 = c .before .before .before .at3 in
+    let pre = start .pre in
+    let low = left-low _ _ _ _ _ _ _ _ _ _ (at1 .ensures) (at2 .ensures) (at3 .ensures) (c .before .before .kind-of .ensures) (c .left-of .ensures) (if1 .left) (if2 .left) (pre .1) in
+    (omega (arith, pre, low), left-tried _ _ _ _ _ _ _ _ _ _ (at1 .ensures) (at2 .ensures) (at3 .ensures) (c .before .before .kind-of .ensures) (c .left-of .ensures) (if1 .left) (if2 .left) (c .before .if3 .taken) (pre .1))
 
--- src/lib.rt:69:23
 tried-enum-known-parts : (t : ℕ) → tried-lts.Need-enum-known-parts (at-reads.Asked, at-reads.Learnt, extended-reads.Asked, extended-reads.Learnt, exact-reads.Asked, exact-reads.Learnt, kind-of-reads.Asked, kind-of-reads.Learnt, left-of-reads.Asked, left-of-reads.Learnt, tried-below t, tried.Post, right-of-reads.Asked, right-of-reads.Learnt) (tried-at t) tried.Post
 tried-enum-known-parts t c = search needs
 
--- src/lib.rt:71:21
 tried-returns-3 : (t : ℕ) → tried-lts.Need-returns-3 (at-reads.Asked, at-reads.Learnt, extended-reads.Asked, extended-reads.Learnt, exact-reads.Asked, exact-reads.Learnt, kind-of-reads.Asked, kind-of-reads.Learnt, left-of-reads.Asked, left-of-reads.Learnt, tried-below t, tried.Post, right-of-reads.Asked, right-of-reads.Learnt) (tried-at t) tried.Post
 tried-returns-3 t c =
-    neg-fits _ _ _ _ _ _ _ _ _ _ (c .before .before .before .before .before .before .before .before .before .before .before .before .at .ensures) (c .before .before .before .before .before .before .before .before .before .before .before .at2 .ensures) (c .before .before .before .before .before .before .before .before .at3 .ensures) (c .before .before .before .before .before .before .before .kind-of .ensures) (c .before .before .before .before .before .left-of .ensures) (c .before .before .before .before .before .before .before .before .before .before .if1 .left) (c .before .before .before .before .before .before .before .before .before .if2 .left) _ (c .before .before .before .before .before .before .if3 .taken) (c .if4 .taken)
+    let at1 = c .before .before .before .before .before .before .before .before .before .before .before .before .at in
+    let at2 = c .before .before .before .before .before .before .before .before .before .before .before .at2 in
+    let if1 = c .before .before .before .before .before .before .before .before .before .before .if1 in
+    let if2 = c .before .before .before .before .before .before .before .before .before .if2 in
+    let at3 = c .before .before .before .before .before .before .before .before .at3 in
+    let kind-of = c .before .before .before .before .before .before .before .kind-of in
+    let if3 = c .before .before .before .before .before .before .if3 in
+    neg-fits _ _ _ _ _ _ _ _ _ _ (at1 .ensures) (at2 .ensures) (at3 .ensures) (kind-of .ensures) (c .before .before .before .before .before .left-of .ensures) (if1 .left) (if2 .left) _ (if3 .taken) (c .if4 .taken)
     (rw (c .before .before .parts .given .1) at (c .before .before .before .before .tried .ensures))
 
--- src/lib.rt:73:47
 tried-mul-at-3 : (t : ℕ) → tried-lts.Need-mul-at-3 (at-reads.Asked, at-reads.Learnt, extended-reads.Asked, extended-reads.Learnt, exact-reads.Asked, exact-reads.Learnt, kind-of-reads.Asked, kind-of-reads.Learnt, left-of-reads.Asked, left-of-reads.Learnt, tried-below t, tried.Post, right-of-reads.Asked, right-of-reads.Learnt) (tried-at t) tried.Post
 tried-mul-at-3 t c = let s = pattern-small _ _ _ _ _ (c .before .before .before .before .before .before .before .before .before .before .before .before .before .before .before .pre .1) in omega (arith, s)
 
--- src/lib.rt:73:47
 tried-add-at-2 : (t : ℕ) → tried-lts.Need-add-at-2 (at-reads.Asked, at-reads.Learnt, extended-reads.Asked, extended-reads.Learnt, exact-reads.Asked, exact-reads.Learnt, kind-of-reads.Asked, kind-of-reads.Learnt, left-of-reads.Asked, left-of-reads.Learnt, tried-below t, tried.Post, right-of-reads.Asked, right-of-reads.Learnt) (tried-at t) tried.Post
 tried-add-at-2 t c = let s = pattern-small _ _ _ _ _ (c .before .before .before .before .before .before .before .before .before .before .before .before .before .before .before .pre .1) in omega (arith, s)
 
--- src/lib.rt:73:21
 tried-at-requires-4 : (t : ℕ) → tried-lts.Need-at-requires-4 (at-reads.Asked, at-reads.Learnt, extended-reads.Asked, extended-reads.Learnt, exact-reads.Asked, exact-reads.Learnt, kind-of-reads.Asked, kind-of-reads.Learnt, left-of-reads.Asked, left-of-reads.Learnt, tried-below t, tried.Post, right-of-reads.Asked, right-of-reads.Learnt) (tried-at t) tried.Post
 tried-at-requires-4 t c κs = search needs
 
--- src/lib.rt:74:45
 tried-right-of-requires : (t : ℕ) → tried-lts.Need-right-of-requires (at-reads.Asked, at-reads.Learnt, extended-reads.Asked, extended-reads.Learnt, exact-reads.Asked, exact-reads.Learnt, kind-of-reads.Asked, kind-of-reads.Learnt, left-of-reads.Asked, left-of-reads.Learnt, tried-below t, tried.Post, right-of-reads.Asked, right-of-reads.Learnt) (tried-at t) tried.Post
 tried-right-of-requires t c κs = search needs
 
--- src/lib.rt:74:17
 tried-tried-requires-2 : (t : ℕ) → tried-lts.Need-tried-requires-2 (at-reads.Asked, at-reads.Learnt, extended-reads.Asked, extended-reads.Learnt, exact-reads.Asked, exact-reads.Learnt, kind-of-reads.Asked, kind-of-reads.Learnt, left-of-reads.Asked, left-of-reads.Learnt, tried-below t, tried.Post, right-of-reads.Asked, right-of-reads.Learnt) (tried-at t) tried.Post
 tried-tried-requires-2 t c κs =
-    let pre = c .before .before .before .before .before .before .before .before .before .before .before .before .before .before .before .before .before .pre in
-    let F = rw (c .before .before .before .before .parts .given .1) at (c .before .before .before .before .before .before .tried .ensures) in
-    let low = right-low _ _ _ _ _ _ _ _ _ _ (c .before .before .before .before .before .before .before .before .before .before .before .before .before .before .at .ensures) (c .before .before .before .before .before .before .before .before .before .before .before .before .before .at2 .ensures) (c .before .before .before .before .before .before .before .before .before .before .at3 .ensures) (c .before .before .before .before .before .before .before .before .before .kind-of .ensures) (c .before .before .before .before .before .before .before .left-of .ensures) (c .before .before .before .before .before .before .before .before .before .before .before .before .if1 .left) (c .before .before .before .before .before .before .before .before .before .before .before .if2 .left) _ _ (c .before .at4 .ensures) (c .right-of .ensures) (c .before .before .if4 .left) (c .before .before .before .before .before .before .before .before .if3 .taken) _ F (pre .1) in
-    (omega (arith, pre, low), right-tried _ _ _ _ _ _ _ _ _ _ (c .before .before .before .before .before .before .before .before .before .before .before .before .before .before .at .ensures) (c .before .before .before .before .before .before .before .before .before .before .before .before .before .at2 .ensures) (c .before .before .before .before .before .before .before .before .before .before .at3 .ensures) (c .before .before .before .before .before .before .before .before .before .kind-of .ensures) (c .before .before .before .before .before .before .before .left-of .ensures) (c .before .before .before .before .before .before .before .before .before .before .before .before .if1 .left) (c .before .before .before .before .before .before .before .before .before .before .before .if2 .left) _ _ (c .before .at4 .ensures) (c .right-of .ensures) (c .before .before .if4 .left) (c .before .before .before .before .before .before .before .before .if3 .taken) _ F (pre .1))
+    let start = c .before .before .before .before .before .before .before .before .before .before .before .before .before .before .before .before .before in
+    let at1 = c .before .before .before .before .before .before .before .before .before .before .before .before .before .before .at in
+    let at2 = c .before .before .before .before .before .before .before .before .before .before .before .before .before .at2 in
+    let if1 = c .before .before .before .before .before .before .before .before .before .before .before .before .if1 in
+    let if2 = c .before .before .before .before .before .before .before .before .before .before .before .if2 in
+    let at3 = c .before .before .before .before .before .before .before .before .before .before .at3 in
+    let kind-of = c .before .before .before .before .before .before .before .before .before .kind-of in
+    let if3 = c .before .before .before .before .before .before .before .before .if3 in
+    let left-of = c .before .before .before .before .before .before .before .left-of in
+    let tried′ = c .before .before .before .before .before .before .tried in
+    let pre = start .pre in
+    let F = rw (c .before .before .before .before .parts .given .1) at (tried′ .ensures) in
+    let low = right-low _ _ _ _ _ _ _ _ _ _ (at1 .ensures) (at2 .ensures) (at3 .ensures) (kind-of .ensures) (left-of .ensures) (if1 .left) (if2 .left) _ _ (c .before .at4 .ensures) (c .right-of .ensures) (c .before .before .if4 .left) (if3 .taken) _ F (pre .1) in
+    (omega (arith, pre, low), right-tried _ _ _ _ _ _ _ _ _ _ (at1 .ensures) (at2 .ensures) (at3 .ensures) (kind-of .ensures) (left-of .ensures) (if1 .left) (if2 .left) _ _ (c .before .at4 .ensures) (c .right-of .ensures) (c .before .before .if4 .left) (if3 .taken) _ F (pre .1))
 
--- src/lib.rt:76:28
 tried-enum-told : (t : ℕ) → tried-lts.Need-enum-told (at-reads.Asked, at-reads.Learnt, extended-reads.Asked, extended-reads.Learnt, exact-reads.Asked, exact-reads.Learnt, kind-of-reads.Asked, kind-of-reads.Learnt, left-of-reads.Asked, left-of-reads.Learnt, tried-below t, tried.Post, right-of-reads.Asked, right-of-reads.Learnt) (tried-at t) tried.Post
 tried-enum-told t c = search needs
 
--- src/lib.rt:68:9
 tried-returns-4 : (t : ℕ) → tried-lts.Need-returns-4 (at-reads.Asked, at-reads.Learnt, extended-reads.Asked, extended-reads.Learnt, exact-reads.Asked, exact-reads.Learnt, kind-of-reads.Asked, kind-of-reads.Learnt, left-of-reads.Asked, left-of-reads.Learnt, tried-below t, tried.Post, right-of-reads.Asked, right-of-reads.Learnt) (tried-at t) tried.Post
 tried-returns-4 t c =
-    both-fit _ _ _ _ _ _ _ _ _ _ (c .before .before .before .before .before .before .before .before .before .before .before .before .before .before .before .at .ensures) (c .before .before .before .before .before .before .before .before .before .before .before .before .before .before .at2 .ensures) (c .before .before .before .before .before .before .before .before .before .before .before .at3 .ensures) (c .before .before .before .before .before .before .before .before .before .before .kind-of .ensures) (c .before .before .before .before .before .before .before .before .left-of .ensures) (c .before .before .before .before .before .before .before .before .before .before .before .before .before .if1 .left) (c .before .before .before .before .before .before .before .before .before .before .before .before .if2 .left) _ _ (c .before .before .at4 .ensures) (c .before .right-of .ensures) (c .before .before .before .if4 .left) (c .before .before .before .before .before .before .before .before .before .if3 .taken) _
-    (rw (c .before .before .before .before .before .parts .given .1) at (c .before .before .before .before .before .before .before .tried .ensures)) _ (c .tried2 .ensures)
+    let at1 = c .before .before .before .before .before .before .before .before .before .before .before .before .before .before .before .at in
+    let at2 = c .before .before .before .before .before .before .before .before .before .before .before .before .before .before .at2 in
+    let if1 = c .before .before .before .before .before .before .before .before .before .before .before .before .before .if1 in
+    let if2 = c .before .before .before .before .before .before .before .before .before .before .before .before .if2 in
+    let at3 = c .before .before .before .before .before .before .before .before .before .before .before .at3 in
+    let kind-of = c .before .before .before .before .before .before .before .before .before .before .kind-of in
+    let if3 = c .before .before .before .before .before .before .before .before .before .if3 in
+    let left-of = c .before .before .before .before .before .before .before .before .left-of in
+    let tried′ = c .before .before .before .before .before .before .before .tried in
+    both-fit _ _ _ _ _ _ _ _ _ _ (at1 .ensures) (at2 .ensures) (at3 .ensures) (kind-of .ensures) (left-of .ensures) (if1 .left) (if2 .left) _ _ (c .before .before .at4 .ensures) (c .before .right-of .ensures) (c .before .before .before .if4 .left) (if3 .taken) _
+    (rw (c .before .before .before .before .before .parts .given .1) at (tried′ .ensures)) _ (c .tried2 .ensures)
 
--- src/lib.rt:68:9
 tried-returns-5 : (t : ℕ) → tried-lts.Need-returns-5 (at-reads.Asked, at-reads.Learnt, extended-reads.Asked, extended-reads.Learnt, exact-reads.Asked, exact-reads.Learnt, kind-of-reads.Asked, kind-of-reads.Learnt, left-of-reads.Asked, left-of-reads.Learnt, tried-below t, tried.Post, right-of-reads.Asked, right-of-reads.Learnt) (tried-at t) tried.Post
 tried-returns-5 t c =
-    left-misses _ _ _ _ _ _ _ _ _ _ (c .before .before .before .before .before .before .before .before .before .before .at .ensures) (c .before .before .before .before .before .before .before .before .before .at2 .ensures) (c .before .before .before .before .before .before .at3 .ensures) (c .before .before .before .before .before .kind-of .ensures) (c .before .before .before .left-of .ensures) (c .before .before .before .before .before .before .before .before .if1 .left) (c .before .before .before .before .before .before .before .if2 .left) (c .before .before .before .before .if3 .taken)
+    let at1 = c .before .before .before .before .before .before .before .before .before .before .at in
+    let at2 = c .before .before .before .before .before .before .before .before .before .at2 in
+    let if1 = c .before .before .before .before .before .before .before .before .if1 in
+    let if2 = c .before .before .before .before .before .before .before .if2 in
+    let at3 = c .before .before .before .before .before .before .at3 in
+    left-misses _ _ _ _ _ _ _ _ _ _ (at1 .ensures) (at2 .ensures) (at3 .ensures) (c .before .before .before .before .before .kind-of .ensures) (c .before .before .before .left-of .ensures) (if1 .left) (if2 .left) (c .before .before .before .before .if3 .taken)
     (rw (c .enum-told .given .1) at (c .before .before .tried .ensures))
 
--- src/lib.rt:54:1
 tried-returns-6 : (t : ℕ) → tried-lts.Need-returns-6 (at-reads.Asked, at-reads.Learnt, extended-reads.Asked, extended-reads.Learnt, exact-reads.Asked, exact-reads.Learnt, kind-of-reads.Asked, kind-of-reads.Learnt, left-of-reads.Asked, left-of-reads.Learnt, tried-below t, tried.Post, right-of-reads.Asked, right-of-reads.Learnt) (tried-at t) tried.Post
 tried-returns-6 t c =
-    shape-misses _ _ _ _ _ _ _ _ _ _ (c .before .before .before .before .before .before .at .ensures) (c .before .before .before .before .before .at2 .ensures) (c .before .before .at3 .ensures) (c .before .kind-of .ensures) refl (c .before .before .before .before .if1 .left) (c .before .before .before .if2 .left) (c .if3 .left)
+    let at1 = c .before .before .before .before .before .before .at in
+    shape-misses _ _ _ _ _ _ _ _ _ _ (at1 .ensures) (c .before .before .before .before .before .at2 .ensures) (c .before .before .at3 .ensures) (c .before .kind-of .ensures) refl (c .before .before .before .before .if1 .left) (c .before .before .before .if2 .left) (c .if3 .left)
 
 pub +tried-spec : {M : Type 1} → statement M
 +tried-spec = close μ-tried λ t. tried-lts.spec (

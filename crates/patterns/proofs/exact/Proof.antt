@@ -6,12 +6,10 @@ use Rattle.patterns.proofs.exact.Tie as tie
 use Rattle.patterns.proofs.exact.Reads as reads
 use Rattle.patterns.proofs.exact.Lts as lts
 
--- src/lib.rt:100:9
 returns : tie.Need-returns
 unfolding same-number
 returns c = rw (eq-eqb _ _ (c .if1 .taken))
 
--- src/lib.rt:96:1
 returns-2 : tie.Need-returns-2
 unfolding same-number
 returns-2 c = rw (ne-eqb _ _ (c .if1 .left))

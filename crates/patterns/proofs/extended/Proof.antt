@@ -6,23 +6,18 @@ use Rattle.patterns.proofs.extended.Tie as tie
 use Rattle.patterns.proofs.extended.Reads as reads
 use Rattle.patterns.proofs.extended.Lts as lts
 
--- src/lib.rt:110:13
 add-n : tie.Need-add-n
 add-n c = search needs
 
--- src/lib.rt:112:9
 returns : tie.Need-returns
 returns c = search with-0
 
--- src/lib.rt:121:9
 returns-2 : tie.Need-returns-2
 returns-2 c = search with-1
 
--- src/lib.rt:130:9
 returns-3 : tie.Need-returns-3
 returns-3 c = search with-2
 
--- src/lib.rt:106:1
 returns-4 : tie.Need-returns-4
 returns-4 c = search with-3
 

@@ -33,7 +33,9 @@ returns c = rw (rows-long, gotten-got _ _ _ (c .before .before .before .k .given
 
 returns-2 : tie.Need-returns-2
 unfolding abstractionRow rowRef then check
-returns-2 c = rw (rows-long, gotten-got _ _ _ (c .before .before .before .before .k .given .1) (c .before .before .before .before .before .before .read-below .ensures), ← c .before .before .kind-of .ensures, ne-eqb _ _ (c .before .if1 .left), eq-eqb _ _ (c .if2 .taken))
+returns-2 c =
+    let read-below = c .before .before .before .before .before .before .read-below in
+    rw (rows-long, gotten-got _ _ _ (c .before .before .before .before .k .given .1) (read-below .ensures), ← c .before .before .kind-of .ensures, ne-eqb _ _ (c .before .if1 .left), eq-eqb _ _ (c .if2 .taken))
 
 returns-3 : tie.Need-returns-3
 unfolding abstractionRow rowRef then check
@@ -41,7 +43,9 @@ returns-3 c = rw (rows-long, gotten-no _ _ _ (c .before .why .given .1) (c .befo
 
 returns-4 : tie.Need-returns-4
 unfolding abstractionRow rowRef then check
-returns-4 c = rw (rows-long, gotten-got _ _ _ (c .before .before .before .before .k .given .1) (c .before .before .before .before .before .before .read-below .ensures), ← c .before .before .kind-of .ensures, ne-eqb _ _ (c .before .if1 .left), ne-eqb _ _ (c .if2 .left))
+returns-4 c =
+    let read-below = c .before .before .before .before .before .before .read-below in
+    rw (rows-long, gotten-got _ _ _ (c .before .before .before .before .k .given .1) (read-below .ensures), ← c .before .before .kind-of .ensures, ne-eqb _ _ (c .before .if1 .left), ne-eqb _ _ (c .if2 .left))
 
 pub abstraction-spec : {M : Type 1} → statement M
 abstraction-spec =

@@ -25,10 +25,17 @@ put-requires : tie.Need-put-requires
 put-requires c κs = search needs
 
 put-requires-2 : tie.Need-put-requires-2
-put-requires-2 c κs = operand-fits _ _ _ (c .before .before .before .before .before .before .before .before .before .before .before .before .pre .1 .1) _ _ _ _ (gotten-got _ _ _ (c .before .before .before .before .before .before .e .given .1) (c .before .before .before .before .before .before .before .before .operand .ensures))
+put-requires-2 c κs =
+    let start = c .before .before .before .before .before .before .before .before .before .before .before .before in
+    let operand = c .before .before .before .before .before .before .before .before .operand in
+    let e = c .before .before .before .before .before .before .e in
+    operand-fits _ _ _ (start .pre .1 .1) _ _ _ _ (gotten-got _ _ _ (e .given .1) (operand .ensures))
 
 clauses-requires : tie.Need-clauses-requires
-clauses-requires c κs = (two-begun _ _ _ (c .before .before .before .before .before .before .before .before .before .before .before .before .before .before .before .before .pre .0) (c .before .before .before .before .before .before .before .put .ensures) _ _ (c .before .before .before .put2 .ensures), (c .before .before .before .before .before .before .before .before .before .before .before .before .before .before .before .before .pre .1 .0, c .before .before .before .before .before .before .before .before .before .before .before .before .before .before .before .before .pre .1 .1, omega arith))
+clauses-requires c κs =
+    let start = c .before .before .before .before .before .before .before .before .before .before .before .before .before .before .before .before in
+    let put = c .before .before .before .before .before .before .before .put in
+    (two-begun _ _ _ (start .pre .0) (put .ensures) _ _ (c .before .before .before .put2 .ensures), (start .pre .1 .0, start .pre .1 .1, omega arith))
 
 returns : tie.Need-returns
 unfolding then
@@ -39,7 +46,13 @@ same-length c = search needs
 
 returns-2 : tie.Need-returns-2
 unfolding then
-returns-2 c = rw (gotten-got _ _ _ (c .before .before .before .before .before .before .before .before .before .before .before .before .before .e .given .1) (c .before .before .before .before .before .before .before .before .before .before .before .before .before .before .before .operand .ensures), ← two-taken _ _ _ (c .before .before .before .before .before .before .before .before .before .before .before .before .before .before .before .before .before .before .before .pre .0) (c .before .before .before .before .before .before .before .before .before .before .put .ensures) _ _ (c .before .before .before .before .before .before .put2 .ensures)) (c .before .before .clauses .ensures)
+returns-2 c =
+    let start = c .before .before .before .before .before .before .before .before .before .before .before .before .before .before .before .before .before .before .before in
+    let operand = c .before .before .before .before .before .before .before .before .before .before .before .before .before .before .before .operand in
+    let e = c .before .before .before .before .before .before .before .before .before .before .before .before .before .e in
+    let put = c .before .before .before .before .before .before .before .before .before .before .put in
+    let put2 = c .before .before .before .before .before .before .put2 in
+    rw (gotten-got _ _ _ (e .given .1) (operand .ensures), ← two-taken _ _ _ (start .pre .0) (put .ensures) _ _ (put2 .ensures)) (c .before .before .clauses .ensures)
 
 pub cases-spec : {M : Type 1} → statement M
 cases-spec =

@@ -36,7 +36,10 @@ same-length : tie.Need-same-length Inv-loop μ-loop
 same-length c = search needs
 
 returns : tie.Need-returns Inv-loop μ-loop
-returns c = stored-refused _ _ _ _ _ _ _ _ (c .before .before .before .before .before .before .before .before .loop .inv) _ _ _ (c .before .before .before .before .before .clause .ensures) _ _ (c .before .before .before .before .before .before .before .loop-test .taken) (c .before .why .given .1)
+returns c =
+    let loop = c .before .before .before .before .before .before .before .before .loop in
+    let loop-test = c .before .before .before .before .before .before .before .loop-test in
+    stored-refused _ _ _ _ _ _ _ _ (loop .inv) _ _ _ (c .before .before .before .before .before .clause .ensures) _ _ (loop-test .taken) (c .before .why .given .1)
 
 enum-known-next : tie.Need-enum-known-next Inv-loop μ-loop
 enum-known-next c = search needs
@@ -48,7 +51,10 @@ loop-less : tie.Need-loop-less Inv-loop μ-loop
 loop-less c = search needs
 
 loop-again : tie.Need-loop-again Inv-loop μ-loop
-loop-again c = stored-more _ _ _ _ _ _ _ _ (c .before .before .before .before .before .before .before .before .loop .inv) _ _ _ (c .before .before .before .before .before .clause .ensures) _ (c .before .before .before .before .before .before .before .loop-test .taken) (c .before .next .given .1) refl
+loop-again c =
+    let loop = c .before .before .before .before .before .before .before .before .loop in
+    let loop-test = c .before .before .before .before .before .before .before .loop-test in
+    stored-more _ _ _ _ _ _ _ _ (loop .inv) _ _ _ (c .before .before .before .before .before .clause .ensures) _ (loop-test .taken) (c .before .next .given .1) refl
 
 same-length-2 : tie.Need-same-length-2 Inv-loop μ-loop
 same-length-2 c = search needs

@@ -30,7 +30,11 @@ add-clause-list : tie.Need-add-clause-list
 add-clause-list c = search needs
 
 clause-list-requires : tie.Need-clause-list-requires
-clause-list-requires c κs = let h = from-got _ _ _ _ _ _ (gotten-got _ _ _ (c .before .before .before .before .before .before .count .given .1) (c .before .before .before .before .before .before .before .before .read-from .ensures)) .to-top in let l = c .before .before .before .before .before .before .before .before .before .before .before .before .pre .1 .2 in (c .before .before .before .before .before .before .before .before .before .before .before .before .pre .1 .0, c .before .before .before .before .before .before .before .before .before .before .before .before .pre .1 .1, omega arith)
+clause-list-requires c κs =
+    let start = c .before .before .before .before .before .before .before .before .before .before .before .before in
+    let read-from = c .before .before .before .before .before .before .before .before .read-from in
+    let count′ = c .before .before .before .before .before .before .count in
+    let h = from-got _ _ _ _ _ _ (gotten-got _ _ _ (count′ .given .1) (read-from .ensures)) .to-top in let l = start .pre .1 .2 in (start .pre .1 .0, start .pre .1 .1, omega arith)
 
 returns : tie.Need-returns
 unfolding clausesRow then
@@ -40,7 +44,12 @@ same-length : tie.Need-same-length
 same-length c = search needs
 
 returns-2 : tie.Need-returns-2
-returns-2 c = clauses-read _ _ _ _ _ _ _ _ _ _ (c .before .before .before .before .before .before .before .before .before .before .before .before .before .before .before .pre .0) (c .before .before .before .before .before .before .put .ensures) _ (c .before .before .before .before .before .before .before .before .before .before .before .before .before .before .before .pre .1 .2) (gotten-got _ _ _ (c .before .before .before .before .before .before .before .before .before .count .given .1) (c .before .before .before .before .before .before .before .before .before .before .before .read-from .ensures)) (c .before .before .clause-list .ensures)
+returns-2 c =
+    let start = c .before .before .before .before .before .before .before .before .before .before .before .before .before .before .before in
+    let read-from = c .before .before .before .before .before .before .before .before .before .before .before .read-from in
+    let count′ = c .before .before .before .before .before .before .before .before .before .count in
+    let put = c .before .before .before .before .before .before .put in
+    clauses-read _ _ _ _ _ _ _ _ _ _ (start .pre .0) (put .ensures) _ (start .pre .1 .2) (gotten-got _ _ _ (count′ .given .1) (read-from .ensures)) (c .before .before .clause-list .ensures)
 
 pub clauses-spec : {M : Type 1} → statement M
 clauses-spec =

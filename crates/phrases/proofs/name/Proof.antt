@@ -35,7 +35,12 @@ same-length c = search needs
 
 returns-2 : tie.Need-returns-2
 unfolding oneRow then phraseCells
-returns-2 c = rw (gotten-got _ _ _ (c .before .before .before .before .before .before .before .before .before .p .given .1) (c .before .before .before .before .before .before .before .before .before .before .before .name-ref .ensures .0), c .before .before .put2 .ensures, c .before .before .before .before .before .before .put .ensures, c .before .before .before .before .before .before .before .before .before .before .before .before .before .before .before .pre .0)
+returns-2 c =
+    let start = c .before .before .before .before .before .before .before .before .before .before .before .before .before .before .before in
+    let name-ref = c .before .before .before .before .before .before .before .before .before .before .before .name-ref in
+    let p = c .before .before .before .before .before .before .before .before .before .p in
+    let put = c .before .before .before .before .before .before .put in
+    rw (gotten-got _ _ _ (p .given .1) (name-ref .ensures .0), c .before .before .put2 .ensures, put .ensures, start .pre .0)
 
 pub name-spec : {M : Type 1} → statement M
 name-spec =

@@ -25,7 +25,11 @@ put-requires : tie.Need-put-requires
 put-requires c κs = search needs
 
 put-requires-2 : tie.Need-put-requires-2
-put-requires-2 c κs = operand-fits _ _ _ (c .before .before .before .before .before .before .before .before .before .before .before .before .pre .1 .0) _ _ _ _ (gotten-got _ _ _ (c .before .before .before .before .before .before .x .given .1) (c .before .before .before .before .before .before .before .before .operand .ensures))
+put-requires-2 c κs =
+    let start = c .before .before .before .before .before .before .before .before .before .before .before .before in
+    let operand = c .before .before .before .before .before .before .before .before .operand in
+    let x = c .before .before .before .before .before .before .x in
+    operand-fits _ _ _ (start .pre .1 .0) _ _ _ _ (gotten-got _ _ _ (x .given .1) (operand .ensures))
 
 returns : tie.Need-returns
 unfolding oneRow then
@@ -36,7 +40,12 @@ same-length c = search needs
 
 returns-2 : tie.Need-returns-2
 unfolding oneRow then phraseCells
-returns-2 c = rw (gotten-got _ _ _ (c .before .before .before .before .before .before .before .before .before .x .given .1) (c .before .before .before .before .before .before .before .before .before .before .before .operand .ensures), c .before .before .put2 .ensures, c .before .before .before .before .before .before .put .ensures, c .before .before .before .before .before .before .before .before .before .before .before .before .before .before .before .pre .0)
+returns-2 c =
+    let start = c .before .before .before .before .before .before .before .before .before .before .before .before .before .before .before in
+    let operand = c .before .before .before .before .before .before .before .before .before .before .before .operand in
+    let x = c .before .before .before .before .before .before .before .before .before .x in
+    let put = c .before .before .before .before .before .before .put in
+    rw (gotten-got _ _ _ (x .given .1) (operand .ensures), c .before .before .put2 .ensures, put .ensures, start .pre .0)
 
 pub one-spec : {M : Type 1} → statement M
 one-spec =

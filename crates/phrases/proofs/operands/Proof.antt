@@ -49,7 +49,11 @@ loop-less : tie.Need-loop-less Inv-loop μ-loop
 loop-less c = search needs
 
 loop-again : tie.Need-loop-again Inv-loop μ-loop
-loop-again c = at-more _ _ _ _ _ _ _ _ (c .before .before .before .before .before .before .before .before .before .loop .inv) _ _ _ _ (c .before .before .before .before .before .before .before .before .loop-test .taken) (gotten-got _ _ _ (c .before .before .before .before .before .x .given .1) (c .before .before .before .before .before .before .before .operand .ensures)) (omega arith) (c .before .before .put .ensures)
+loop-again c =
+    let loop = c .before .before .before .before .before .before .before .before .before .loop in
+    let loop-test = c .before .before .before .before .before .before .before .before .loop-test in
+    let operand = c .before .before .before .before .before .before .before .operand in
+    at-more _ _ _ _ _ _ _ _ (loop .inv) _ _ _ _ (loop-test .taken) (gotten-got _ _ _ (c .before .before .before .before .before .x .given .1) (operand .ensures)) (omega arith) (c .before .before .put .ensures)
 
 same-length-2 : tie.Need-same-length-2 Inv-loop μ-loop
 same-length-2 c = search needs

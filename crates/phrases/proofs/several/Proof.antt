@@ -24,13 +24,19 @@ enum-known-count : tie.Need-enum-known-count
 enum-known-count c = search needs
 
 put-requires : tie.Need-put-requires
-put-requires c κs = let h = from-got _ _ _ _ _ _ (gotten-got _ _ _ (c .before .before .count .given .1) (c .before .before .before .before .read-from .ensures)) .to-top in let l = c .before .before .before .before .before .before .before .before .pre .1 .1 in omega arith
+put-requires c κs =
+    let start = c .before .before .before .before .before .before .before .before in
+    let h = from-got _ _ _ _ _ _ (gotten-got _ _ _ (c .before .before .count .given .1) (c .before .before .before .before .read-from .ensures)) .to-top in let l = start .pre .1 .1 in omega arith
 
 add-operands : tie.Need-add-operands
 add-operands c = search needs
 
 operands-requires : tie.Need-operands-requires
-operands-requires c κs = let h = from-got _ _ _ _ _ _ (gotten-got _ _ _ (c .before .before .before .before .before .before .count .given .1) (c .before .before .before .before .before .before .before .before .read-from .ensures)) .to-top in let l = c .before .before .before .before .before .before .before .before .before .before .before .before .pre .1 .1 in (c .before .before .before .before .before .before .before .before .before .before .before .before .pre .1 .0, omega arith)
+operands-requires c κs =
+    let start = c .before .before .before .before .before .before .before .before .before .before .before .before in
+    let read-from = c .before .before .before .before .before .before .before .before .read-from in
+    let count′ = c .before .before .before .before .before .before .count in
+    let h = from-got _ _ _ _ _ _ (gotten-got _ _ _ (count′ .given .1) (read-from .ensures)) .to-top in let l = start .pre .1 .1 in (start .pre .1 .0, omega arith)
 
 returns : tie.Need-returns
 unfolding severalRow then
@@ -40,7 +46,12 @@ same-length : tie.Need-same-length
 same-length c = search needs
 
 returns-2 : tie.Need-returns-2
-returns-2 c = several-read _ _ _ _ _ _ _ _ _ _ (c .before .before .before .before .before .before .before .before .before .before .before .before .before .before .before .pre .0) (c .before .before .before .before .before .before .put .ensures) _ _ (c .before .before .before .before .before .before .before .before .before .before .before .before .before .before .before .pre .1 .1) (gotten-got _ _ _ (c .before .before .before .before .before .before .before .before .before .count .given .1) (c .before .before .before .before .before .before .before .before .before .before .before .read-from .ensures)) (c .before .before .operands .ensures)
+returns-2 c =
+    let start = c .before .before .before .before .before .before .before .before .before .before .before .before .before .before .before in
+    let read-from = c .before .before .before .before .before .before .before .before .before .before .before .read-from in
+    let count′ = c .before .before .before .before .before .before .before .before .before .count in
+    let put = c .before .before .before .before .before .before .put in
+    several-read _ _ _ _ _ _ _ _ _ _ (start .pre .0) (put .ensures) _ _ (start .pre .1 .1) (gotten-got _ _ _ (count′ .given .1) (read-from .ensures)) (c .before .before .operands .ensures)
 
 pub several-spec : {M : Type 1} → statement M
 several-spec =

@@ -34,10 +34,18 @@ put-requires : tie.Need-put-requires
 put-requires c κs = search needs
 
 put-requires-2 : tie.Need-put-requires-2
-put-requires-2 c κs = operand-fits _ _ _ (c .before .before .before .before .before .before .before .before .before .before .before .before .before .before .before .before .pre .1 .0) _ _ _ _ (gotten-got _ _ _ (c .before .before .before .before .before .before .before .before .before .before .x .given .1) (c .before .before .before .before .before .before .before .before .before .before .before .before .operand .ensures))
+put-requires-2 c κs =
+    let start = c .before .before .before .before .before .before .before .before .before .before .before .before .before .before .before .before in
+    let operand = c .before .before .before .before .before .before .before .before .before .before .before .before .operand in
+    let x = c .before .before .before .before .before .before .before .before .before .before .x in
+    operand-fits _ _ _ (start .pre .1 .0) _ _ _ _ (gotten-got _ _ _ (x .given .1) (operand .ensures))
 
 put-requires-3 : tie.Need-put-requires-3
-put-requires-3 c κs = operand-fits _ _ _ (c .before .before .before .before .before .before .before .before .before .before .before .before .before .before .before .before .before .before .before .before .pre .1 .0) _ _ _ _ (gotten-got _ _ _ (c .before .before .before .before .before .before .before .before .before .before .y .given .1) (c .before .before .before .before .before .before .before .before .before .before .before .before .operand2 .ensures))
+put-requires-3 c κs =
+    let start = c .before .before .before .before .before .before .before .before .before .before .before .before .before .before .before .before .before .before .before .before in
+    let operand2 = c .before .before .before .before .before .before .before .before .before .before .before .before .operand2 in
+    let y = c .before .before .before .before .before .before .before .before .before .before .y in
+    operand-fits _ _ _ (start .pre .1 .0) _ _ _ _ (gotten-got _ _ _ (y .given .1) (operand2 .ensures))
 
 returns : tie.Need-returns
 unfolding pairRow then
@@ -45,14 +53,24 @@ returns c = rw (gotten-no _ _ _ (c .before .why .given .1) (c .before .before .b
 
 returns-2 : tie.Need-returns-2
 unfolding pairRow then
-returns-2 c = rw (gotten-got _ _ _ (c .before .before .before .before .before .x .given .1) (c .before .before .before .before .before .before .before .operand .ensures), gotten-no _ _ _ (c .before .why2 .given .1) (c .before .before .before .operand2 .ensures))
+returns-2 c =
+    let operand = c .before .before .before .before .before .before .before .operand in
+    rw (gotten-got _ _ _ (c .before .before .before .before .before .x .given .1) (operand .ensures), gotten-no _ _ _ (c .before .why2 .given .1) (c .before .before .before .operand2 .ensures))
 
 same-length : tie.Need-same-length
 same-length c = search needs
 
 returns-3 : tie.Need-returns-3
 unfolding pairRow then phraseCells
-returns-3 c = rw (gotten-got _ _ _ (c .before .before .before .before .before .before .before .before .before .before .before .before .before .before .before .before .before .x .given .1) (c .before .before .before .before .before .before .before .before .before .before .before .before .before .before .before .before .before .before .before .operand .ensures), gotten-got _ _ _ (c .before .before .before .before .before .before .before .before .before .before .before .before .before .y .given .1) (c .before .before .before .before .before .before .before .before .before .before .before .before .before .before .before .operand2 .ensures), c .before .before .put3 .ensures, c .before .before .before .before .before .before .put2 .ensures, c .before .before .before .before .before .before .before .before .before .before .put .ensures, c .before .before .before .before .before .before .before .before .before .before .before .before .before .before .before .before .before .before .before .before .before .before .before .pre .0)
+returns-3 c =
+    let start = c .before .before .before .before .before .before .before .before .before .before .before .before .before .before .before .before .before .before .before .before .before .before .before in
+    let operand = c .before .before .before .before .before .before .before .before .before .before .before .before .before .before .before .before .before .before .before .operand in
+    let x = c .before .before .before .before .before .before .before .before .before .before .before .before .before .before .before .before .before .x in
+    let operand2 = c .before .before .before .before .before .before .before .before .before .before .before .before .before .before .before .operand2 in
+    let y = c .before .before .before .before .before .before .before .before .before .before .before .before .before .y in
+    let put = c .before .before .before .before .before .before .before .before .before .before .put in
+    let put2 = c .before .before .before .before .before .before .put2 in
+    rw (gotten-got _ _ _ (x .given .1) (operand .ensures), gotten-got _ _ _ (y .given .1) (operand2 .ensures), c .before .before .put3 .ensures, put2 .ensures, put .ensures, start .pre .0)
 
 pub two-spec : {M : Type 1} → statement M
 two-spec =

@@ -37,13 +37,17 @@ same-length-2 : tie.Need-same-length-2
 same-length-2 c = search needs
 
 returns-2 : tie.Need-returns-2
-returns-2 c = λ T H many are. from-base-rootless _ T _ _ _ _ _ _ _ _ _ H many are _ (c .before .before .before .before .before .before .before .before .before .base .ensures) _ _ _ (c .before .before .before .before .before .ended2 .given .1) (gotten-no _ _ _ (c .before .why .given .1) (c .before .before .before .root .ensures))
+returns-2 c =
+    let base′ = c .before .before .before .before .before .before .before .before .before .base in
+    λ T H many are. from-base-rootless _ T _ _ _ _ _ _ _ _ _ H many are _ (base′ .ensures) _ _ _ (c .before .before .before .before .before .ended2 .given .1) (gotten-no _ _ _ (c .before .why .given .1) (c .before .before .before .root .ensures))
 
 same-length-3 : tie.Need-same-length-3
 same-length-3 c = search needs
 
 returns-3 : tie.Need-returns-3
-returns-3 c = λ T H many are. from-base-rooted _ T _ _ _ _ _ _ _ _ _ H many are _ (c .before .before .before .before .before .before .before .before .before .base .ensures) _ _ _ (c .before .before .before .before .before .ended2 .given .1) (gotten-got _ _ _ (c .before .root2 .given .1) (c .before .before .before .root .ensures))
+returns-3 c =
+    let base′ = c .before .before .before .before .before .before .before .before .before .base in
+    λ T H many are. from-base-rooted _ T _ _ _ _ _ _ _ _ _ H many are _ (base′ .ensures) _ _ _ (c .before .before .before .before .before .ended2 .given .1) (gotten-got _ _ _ (c .before .root2 .given .1) (c .before .before .before .root .ensures))
 
 pub read-base-spec : {M : Type 1} → statement M
 read-base-spec =

@@ -36,7 +36,10 @@ same-length-4 : tie.Need-same-length-4
 same-length-4 c = search needs
 
 returns-2 : tie.Need-returns-2
-returns-2 c = λ T H. from-patterns-read _ T _ _ _ _ _ _ _ _ H _ (c .before .before .before .before .before .before .before .before .before .before .before .before .patterns .ensures) _ _ _ _ (c .before .before .before .before .before .before .before .before .ended2 .given .1) (c .before .before .before .before .read-phrases .ensures)
+returns-2 c =
+    let patterns′ = c .before .before .before .before .before .before .before .before .before .before .before .before .patterns in
+    let ended2 = c .before .before .before .before .before .before .before .before .ended2 in
+    λ T H. from-patterns-read _ T _ _ _ _ _ _ _ _ H _ (patterns′ .ensures) _ _ _ _ (ended2 .given .1) (c .before .before .before .before .read-phrases .ensures)
 
 pub read-patterns-spec : {M : Type 1} → statement M
 read-patterns-spec =

@@ -33,7 +33,10 @@ same-length-3 : tie.Need-same-length-3
 same-length-3 c = search needs
 
 returns-2 : tie.Need-returns-2
-returns-2 c = λ T H many. from-phrases-read _ T _ _ _ _ _ _ _ _ H many _ (c .before .before .before .before .before .before .before .before .before .before .phrases .ensures) _ _ _ (c .before .before .before .before .before .before .ended2 .given .1) (c .before .before .read-base .ensures)
+returns-2 c =
+    let phrases′ = c .before .before .before .before .before .before .before .before .before .before .phrases in
+    let ended2 = c .before .before .before .before .before .before .ended2 in
+    λ T H many. from-phrases-read _ T _ _ _ _ _ _ _ _ H many _ (phrases′ .ensures) _ _ _ (ended2 .given .1) (c .before .before .read-base .ensures)
 
 pub read-phrases-spec : {M : Type 1} → statement M
 read-phrases-spec =

@@ -33,16 +33,27 @@ same-length-2 : tie.Need-same-length-2 Inv-loop μ-loop
 same-length-2 c = search needs
 
 returns : tie.Need-returns Inv-loop μ-loop
-returns c = at-refused _ _ _ _ _ _ (c .before .before .before .before .before .before .before .before .before .before .pre) _ _ _ _ _ (c .before .before .before .before .before .before .loop .inv) _ _ (c .before .before .before .before .before .loop-test .taken) (gotten-no _ _ _ (c .before .why .given .1) (c .before .before .before .word-at .ensures .0))
+returns c =
+    let start = c .before .before .before .before .before .before .before .before .before .before in
+    let loop = c .before .before .before .before .before .before .loop in
+    at-refused _ _ _ _ _ _ (start .pre) _ _ _ _ _ (loop .inv) _ _ (c .before .before .before .before .before .loop-test .taken) (gotten-no _ _ _ (c .before .why .given .1) (c .before .before .before .word-at .ensures .0))
 
 enum-known-w : tie.Need-enum-known-w Inv-loop μ-loop
 enum-known-w c = search needs
 
 intern-requires : tie.Need-intern-requires Inv-loop μ-loop
-intern-requires c κs = (at-room _ _ _ _ _ _ (c .before .before .before .before .before .before .before .before .before .before .before .pre) _ _ _ _ _ (c .before .before .before .before .before .before .before .loop .inv) (c .before .before .before .before .before .before .loop-test .taken), narrow-got _ _ _ (c .before .before .w .given .1) (c .before .before .before .before .word-at .ensures .1))
+intern-requires c κs =
+    let start = c .before .before .before .before .before .before .before .before .before .before .before in
+    let loop = c .before .before .before .before .before .before .before .loop in
+    let loop-test = c .before .before .before .before .before .before .loop-test in
+    (at-room _ _ _ _ _ _ (start .pre) _ _ _ _ _ (loop .inv) (loop-test .taken), narrow-got _ _ _ (c .before .before .w .given .1) (c .before .before .before .before .word-at .ensures .1))
 
 put-requires : tie.Need-put-requires Inv-loop μ-loop
-put-requires c κs = at-put _ _ _ _ _ _ (c .before .before .before .before .before .before .before .before .before .before .before .before .before .before .before .pre) _ _ _ _ _ (c .before .before .before .before .before .before .before .before .before .before .before .loop .inv) _ _ _ (c .before .before .before .before .before .before .before .before .before .before .loop-test .taken) (c .before .before .before .intern .ensures)
+put-requires c κs =
+    let start = c .before .before .before .before .before .before .before .before .before .before .before .before .before .before .before in
+    let loop = c .before .before .before .before .before .before .before .before .before .before .before .loop in
+    let loop-test = c .before .before .before .before .before .before .before .before .before .before .loop-test in
+    at-put _ _ _ _ _ _ (start .pre) _ _ _ _ _ (loop .inv) _ _ _ (loop-test .taken) (c .before .before .before .intern .ensures)
 
 add-i : tie.Need-add-i Inv-loop μ-loop
 add-i c = search needs
@@ -51,7 +62,14 @@ loop-less : tie.Need-loop-less Inv-loop μ-loop
 loop-less c = search needs
 
 loop-again : tie.Need-loop-again Inv-loop μ-loop
-loop-again c = rw (c .before .before .put .ensures) (at-more _ _ _ _ _ _ (c .before .before .before .before .before .before .before .before .before .before .before .before .before .before .before .before .before .before .pre) _ _ _ _ _ (c .before .before .before .before .before .before .before .before .before .before .before .before .before .before .loop .inv) _ _ _ _ (c .before .before .before .before .before .before .before .before .before .before .before .before .before .loop-test .taken) (gotten-got _ _ _ (c .before .before .before .before .before .before .before .before .before .w .given .1) (c .before .before .before .before .before .before .before .before .before .before .before .word-at .ensures .0)) (c .before .before .before .before .before .before .intern .ensures))
+loop-again c =
+    let start = c .before .before .before .before .before .before .before .before .before .before .before .before .before .before .before .before .before .before in
+    let loop = c .before .before .before .before .before .before .before .before .before .before .before .before .before .before .loop in
+    let loop-test = c .before .before .before .before .before .before .before .before .before .before .before .before .before .loop-test in
+    let word-at = c .before .before .before .before .before .before .before .before .before .before .before .word-at in
+    let w = c .before .before .before .before .before .before .before .before .before .w in
+    let intern = c .before .before .before .before .before .before .intern in
+    rw (c .before .before .put .ensures) (at-more _ _ _ _ _ _ (start .pre) _ _ _ _ _ (loop .inv) _ _ _ _ (loop-test .taken) (gotten-got _ _ _ (w .given .1) (word-at .ensures .0)) (intern .ensures))
 
 same-length-3 : tie.Need-same-length-3 Inv-loop μ-loop
 same-length-3 c = search needs

@@ -18,7 +18,10 @@ enum-known-ended-2 : tie.Need-enum-known-ended-2
 enum-known-ended-2 c = search needs
 
 read-patterns-requires : tie.Need-read-patterns-requires
-read-patterns-requires c κs = let R = c .before .before .before .before .before .before .before .before .before .before .before .before .before .before .before .before .before .before .before .before .pre in (names-fit _ _ _ _ _ _ (c .before .before .before .before .before .before .before .before .before .before .before .propositions .ensures), R .patterns, R .phrases, R .base)
+read-patterns-requires c κs =
+    let start = c .before .before .before .before .before .before .before .before .before .before .before .before .before .before .before .before .before .before .before .before in
+    let propositions′ = c .before .before .before .before .before .before .before .before .before .before .before .propositions in
+    let R = start .pre in (names-fit _ _ _ _ _ _ (propositions′ .ensures), R .patterns, R .phrases, R .base)
 
 same-length : tie.Need-same-length
 same-length c = search needs
@@ -45,7 +48,11 @@ same-length-7 : tie.Need-same-length-7
 same-length-7 c = search needs
 
 returns-2 : tie.Need-returns-2
-returns-2 c = whole-read _ _ _ _ _ _ (c .before .before .before .before .before .before .before .before .before .before .before .before .before .before .before .before .before .before .propositions .ensures) _ _ _ _ _ _ _ _ (c .before .before .before .before .before .before .before .before .before .before .before .before .ended2 .given .1) (c .before .before .before .before .before .before .read-patterns .ensures)
+returns-2 c =
+    let propositions′ = c .before .before .before .before .before .before .before .before .before .before .before .before .before .before .before .before .before .before .propositions in
+    let ended2 = c .before .before .before .before .before .before .before .before .before .before .before .before .ended2 in
+    let read-patterns = c .before .before .before .before .before .before .read-patterns in
+    whole-read _ _ _ _ _ _ (propositions′ .ensures) _ _ _ _ _ _ _ _ (ended2 .given .1) (read-patterns .ensures)
 
 pub read-sheet-spec : {M : Type 1} → statement M
 read-sheet-spec =

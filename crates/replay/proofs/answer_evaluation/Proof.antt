@@ -8,29 +8,29 @@ use Rattle.replay.proofs.answer_evaluation.Statement.{statement}
 use Rattle.replay.proofs.answer_evaluation.Tie as tie
 use Rattle.replay.proofs.answer_evaluation.Reads as reads
 use Rattle.replay.proofs.answer_evaluation.Lts as lts
-use Rattle.replay.proofs.evaluate_into.Reads as evaluate-into-reads
+use Rattle.replay.proofs.lend_tokens.Reads as lend-tokens-reads
 
 array-borrow-prefix-out : tie.Need-array-borrow-prefix-out
 array-borrow-prefix-out c = search needs
 
-slice-aggregate-evaluate-into : tie.Need-slice-aggregate-evaluate-into
-slice-aggregate-evaluate-into c =
+slice-aggregate-lend-tokens : tie.Need-slice-aggregate-lend-tokens
+slice-aggregate-lend-tokens c =
     let inside = c .before .if1 .taken in
     sym (length-take-le _ _ (omega arith))
 
-evaluate-into-requires : tie.Need-evaluate-into-requires
-evaluate-into-requires c κs =
+lend-tokens-requires : tie.Need-lend-tokens-requires
+lend-tokens-requires c κs =
     let inside = c .before .if1 .taken in
     taken-few (c .before .before .before .args .room) 65536 _ (omega arith)
 
 returns : tie.Need-returns
 returns c = search needs
 
-slice-aggregate-evaluate-into-2 : tie.Need-slice-aggregate-evaluate-into-2
-slice-aggregate-evaluate-into-2 c = search needs
+slice-aggregate-lend-tokens-2 : tie.Need-slice-aggregate-lend-tokens-2
+slice-aggregate-lend-tokens-2 c = search needs
 
-evaluate-into-requires-2 : tie.Need-evaluate-into-requires-2
-evaluate-into-requires-2 c κs = search needs
+lend-tokens-requires-2 : tie.Need-lend-tokens-requires-2
+lend-tokens-requires-2 c κs = search needs
 
 returns-2 : tie.Need-returns-2
 returns-2 c = search needs
@@ -40,9 +40,9 @@ answer-evaluation-spec =
     tie.close
     (tie.spec
     array-borrow-prefix-out
-    slice-aggregate-evaluate-into
-    evaluate-into-requires
+    slice-aggregate-lend-tokens
+    lend-tokens-requires
     returns
-    slice-aggregate-evaluate-into-2
-    evaluate-into-requires-2
+    slice-aggregate-lend-tokens-2
+    lend-tokens-requires-2
     returns-2)

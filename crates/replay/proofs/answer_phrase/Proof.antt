@@ -27,8 +27,12 @@ at-requires c κs = search needs
 
 evaluate-requires : tie.Need-evaluate-requires
 evaluate-requires c κs =
-    let asked = c .before .before .before .before .before .before .before .before .before .before .before .before .before .before .before .before .before .before .before .before .before .before .before .before .before .before .before .before .before .before .before .before .before .before .before .pre in
-    let kept = c .before .before .before .before .before .before .before .before .before .before .before .before .before .before .before .before .before .before .before .before .before .before .read-sheet .kept in
+    let start = c .before .before .before .before .before .before .before .before .before .before .before .before .before .before .before .before .before .before .before .before .before .before .before .before .before .before .before .before .before .before .before .before .before .before .before in
+    let read-sheet = c .before .before .before .before .before .before .before .before .before .before .before .before .before .before .before .before .before .before .before .before .before .before .read-sheet in
+    let c′ = c .before .before .before .before .before .before .before .before .before .before .c in
+    let if1 = c .before .before .before .before .before .before .before .if1 in
+    let asked = start .pre in
+    let kept = read-sheet .kept in
     let forms = asked .1 in
     let patterns = asked .2 in
     let phrases = asked .3 in
@@ -37,7 +41,7 @@ evaluate-requires c κs =
     let phrases-kept = kept .1 .1 .1 .0 in
     let first = c .before .before .before .before .before .at .ensures in
     let low = c .before .before .before .before .if2 .taken in
-    phrase-ready _ _ _ _ _ _ _ _ _ _ _ _ _ _ (c .before .before .before .before .before .before .before .before .before .before .before .before .before .before .before .before .before .before .before .before .before .before .read-sheet .ensures) (c .before .before .before .before .before .before .before .before .before .before .c .given .1) (omega arith) patterns-kept (omega arith) phrases-kept (omega arith) (asked .5) _ (c .before .before .before .before .before .before .before .if1 .taken) (omega arith)
+    phrase-ready _ _ _ _ _ _ _ _ _ _ _ _ _ _ (read-sheet .ensures) (c′ .given .1) (omega arith) patterns-kept (omega arith) phrases-kept (omega arith) (asked .5) _ (if1 .taken) (omega arith)
 
 print-value-requires : tie.Need-print-value-requires
 print-value-requires c κs = search needs

@@ -7,11 +7,6 @@ use Rattle.replay.proofs.Prefixes.{taken-few}
 use borrow.Author.Needs.{needs}
 use Rattle.replay.proofs.evaluate_into.Statement.{statement}
 use Rattle.replay.proofs.evaluate_into.Tie as tie
-use Rattle.replay.proofs.evaluate_into.Reads as reads
-use Rattle.replay.proofs.evaluate_into.Lts as lts
-use Rattle.evaluator.proofs.evaluate.Reads as evaluate-reads
-use Rattle.replay.proofs.accepted.Reads as accepted-reads
-use Rattle.replay.proofs.refused.Reads as refused-reads
 
 slice-aggregate-evaluate : tie.Need-slice-aggregate-evaluate
 slice-aggregate-evaluate c = search needs
@@ -31,9 +26,6 @@ slice-aggregate-evaluate-5 c = search needs
 slice-aggregate-evaluate-6 : tie.Need-slice-aggregate-evaluate-6
 slice-aggregate-evaluate-6 c = search needs
 
-slice-aggregate-evaluate-7 : tie.Need-slice-aggregate-evaluate-7
-slice-aggregate-evaluate-7 c = search needs
-
 evaluate-requires : tie.Need-evaluate-requires
 evaluate-requires c κs = search needs
 
@@ -42,21 +34,24 @@ enum-known-n c = search needs
 
 slice-reshare-prefix-accepted : tie.Need-slice-reshare-prefix-accepted
 slice-reshare-prefix-accepted c =
-    let fits = accepted-fits _ _ _ _ _ _ _ _ _ _ (c .before .before .before .before .before .before .before .before .before .before .before .before .evaluate .ensures) (c .before .n .given .1) in
-    let kept = c .before .before .before .before .before .before .before .before .before .before .before .before .evaluate .kept .1 .1 .1 .1 .1 .1 .1 .0 in
+    let evaluate = c .before .before .before .before .before .before .before .before .before .before .before .before .before .evaluate in
+    let fits = accepted-fits _ _ _ _ _ _ _ _ _ _ (evaluate .ensures) (c .before .n .given .1) in
+    let kept = evaluate .kept .1 .1 .1 .1 .1 .1 .1 .0 in
     omega arith
 
 slice-aggregate-accepted : tie.Need-slice-aggregate-accepted
 slice-aggregate-accepted c =
-    let fits = accepted-fits _ _ _ _ _ _ _ _ _ _ (c .before .before .before .before .before .before .before .before .before .before .before .before .before .evaluate .ensures) (c .before .before .n .given .1) in
-    let kept = c .before .before .before .before .before .before .before .before .before .before .before .before .before .evaluate .kept .1 .1 .1 .1 .1 .1 .1 .0 in
+    let evaluate = c .before .before .before .before .before .before .before .before .before .before .before .before .before .before .evaluate in
+    let fits = accepted-fits _ _ _ _ _ _ _ _ _ _ (evaluate .ensures) (c .before .before .n .given .1) in
+    let kept = evaluate .kept .1 .1 .1 .1 .1 .1 .1 .0 in
     sym (length-take-le _ _ (omega arith))
 
 accepted-requires : tie.Need-accepted-requires
 accepted-requires c κs =
-    let fits = accepted-fits _ _ _ _ _ _ _ _ _ _ (c .before .before .before .before .before .before .before .before .before .before .before .before .before .evaluate .ensures) (c .before .before .n .given .1) in
-    let kept = c .before .before .before .before .before .before .before .before .before .before .before .before .before .evaluate .kept .1 .1 .1 .1 .1 .1 .1 .0 in
-    let room = c .before .before .before .before .before .before .before .before .before .before .before .before .before .before .before .before .before .before .before .before .before .before .before .before .pre in
+    let evaluate = c .before .before .before .before .before .before .before .before .before .before .before .before .before .before .evaluate in
+    let fits = accepted-fits _ _ _ _ _ _ _ _ _ _ (evaluate .ensures) (c .before .before .n .given .1) in
+    let kept = evaluate .kept .1 .1 .1 .1 .1 .1 .1 .0 in
+    let room = c .before .before .before .before .before .before .before .before .before .before .before .before .before .before .before .before .before .before .before .before .before .before .before .before .before .before .pre in
     taken-few (c .before .before .n .given .0 .0) 65536 _ (omega arith)
 
 enum-known-why : tie.Need-enum-known-why
@@ -68,11 +63,17 @@ refused-requires c κs = search needs
 same-length : tie.Need-same-length
 same-length c = search needs
 
+same-length-2 : tie.Need-same-length-2
+same-length-2 c = search needs
+
 returns : tie.Need-returns
 returns c = search needs
 
-same-length-2 : tie.Need-same-length-2
-same-length-2 c = search needs
+same-length-3 : tie.Need-same-length-3
+same-length-3 c = search needs
+
+same-length-4 : tie.Need-same-length-4
+same-length-4 c = search needs
 
 returns-2 : tie.Need-returns-2
 returns-2 c = search needs
@@ -87,7 +88,6 @@ evaluate-into-spec =
     slice-aggregate-evaluate-4
     slice-aggregate-evaluate-5
     slice-aggregate-evaluate-6
-    slice-aggregate-evaluate-7
     evaluate-requires
     enum-known-n
     slice-reshare-prefix-accepted
@@ -96,6 +96,8 @@ evaluate-into-spec =
     enum-known-why
     refused-requires
     same-length
-    returns
     same-length-2
+    returns
+    same-length-3
+    same-length-4
     returns-2)

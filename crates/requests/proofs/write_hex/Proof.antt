@@ -1,9 +1,9 @@
 -- `requests::write_hex` meets its contract: at each turn what is written stands at the front of out.
 use native.Mathlib.Omega.{arith}
-use Prim.Native.Nat.{_+_, _-_}
+use Prim.Native.Nat.{ℕ, _+_, _-_}
 use lib.ListN.{length}
-use borrow.Author.Needs.{needs}
-use Rattle.requests.proofs.Hexed.{At, put-inside, at-start, at-byte, at-end}
+use borrow.Author.Needs.{needs, below-set}
+use Rattle.requests.proofs.Hexed.{At, at-start, at-byte, at-end}
 use Rattle.requests.proofs.write_hex.Statement.{statement}
 use Rattle.requests.proofs.write_hex.Tie as tie
 use Rattle.requests.proofs.write_hex.Reads as reads
@@ -33,7 +33,10 @@ cast-out : tie.Need-cast-out Inv-loop μ-loop
 cast-out c = let small = c .written .ensures .1 in omega arith
 
 slice-write-out : tie.Need-slice-write-out Inv-loop μ-loop
-slice-write-out c = let room = c .before .before .before .before .before .before .before .pre in let inside = c .before .before .before .loop-test .taken in let place = c .before .before .before .before .loop .inv .place in let kept = c .before .before .before .before .loop .inv .kept in omega arith
+slice-write-out c =
+    let start = c .before .before .before .before .before .before .before in
+    let loop = c .before .before .before .before .loop in
+    let room = start .pre in let inside = c .before .before .before .loop-test .taken in let place = loop .inv .place in let kept = loop .inv .kept in omega arith
 
 written-requires-2 : tie.Need-written-requires-2 Inv-loop μ-loop
 written-requires-2 c κs = let small = c .before .wide .ensures .1 in omega arith
@@ -45,7 +48,10 @@ add-out : tie.Need-add-out Inv-loop μ-loop
 add-out c = search needs
 
 slice-write-out-2 : tie.Need-slice-write-out-2 Inv-loop μ-loop
-slice-write-out-2 c = let room = c .before .before .before .before .before .before .before .before .pre in let inside = c .before .before .before .before .loop-test .taken in let place = c .before .before .before .before .before .loop .inv .place in let kept = c .before .before .before .before .before .loop .inv .kept in put-inside (c .before .before .before .before .before .loop .out) (c .before .before .before .before .before .loop .at) _ (c .before .before .before .before .before .loop .at + 1) (omega arith)
+slice-write-out-2 c =
+    let start = c .before .before .before .before .before .before .before .before in
+    let loop = c .before .before .before .before .before .loop in
+    let room = start .pre in let inside = c .before .before .before .before .loop-test .taken in let place = loop .inv .place in let kept = loop .inv .kept in below-set ℕ (loop .out) (loop .at + 1) (loop .at) _ (omega arith)
 
 add-i : tie.Need-add-i Inv-loop μ-loop
 add-i c = search needs
@@ -57,7 +63,9 @@ loop-less : tie.Need-loop-less Inv-loop μ-loop
 loop-less c = search needs
 
 loop-again : tie.Need-loop-again Inv-loop μ-loop
-loop-again c = at-byte _ _ _ _ _ _ _ _ (c .before .before .before .before .before .loop .inv) (c .before .before .before .before .before .before .before .before .pre) (c .before .before .before .before .loop-test .taken) (c .before .before .wide .ensures .0) (c .before .written .ensures .0) (c .written2 .ensures .0)
+loop-again c =
+    let start = c .before .before .before .before .before .before .before .before in
+    at-byte _ _ _ _ _ _ _ _ (c .before .before .before .before .before .loop .inv) (start .pre) (c .before .before .before .before .loop-test .taken) (c .before .before .wide .ensures .0) (c .before .written .ensures .0) (c .written2 .ensures .0)
 
 same-length : tie.Need-same-length Inv-loop μ-loop
 same-length c = c .before .loop .inv .kept

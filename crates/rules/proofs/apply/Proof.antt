@@ -26,7 +26,9 @@ same-length : tie.Need-same-length
 same-length c = search needs
 
 returns : tie.Need-returns
-returns c = ruling-known _ _ _ _ _ _ _ _ (c .before .before .before .before .before .before .before .before .before .pre) _ (sym (c .before .before .before .before .before .conclude .ensures) ∙ c .before .before .before .p .given .1) (sym (c .before .grounded .ensures) ∙ c .if1 .taken)
+returns c =
+    let start = c .before .before .before .before .before .before .before .before .before in
+    ruling-known _ _ _ _ _ _ _ _ (start .pre) _ (sym (c .before .before .before .before .before .conclude .ensures) ∙ c .before .before .before .p .given .1) (sym (c .before .grounded .ensures) ∙ c .if1 .taken)
 
 enum-known-w : tie.Need-enum-known-w
 enum-known-w c = search needs
@@ -35,13 +37,20 @@ grounded-requires-2 : tie.Need-grounded-requires-2
 grounded-requires-2 c κs = search needs
 
 intern-requires : tie.Need-intern-requires
-intern-requires c κs = (c .before .before .before .before .before .before .before .before .before .before .pre .room .0, new-fits _ _ _ _ _ _ _ _ (c .before .before .before .before .before .before .before .before .before .before .pre) _ (sym (c .before .before .before .before .before .before .conclude .ensures) ∙ c .before .before .before .before .w .given .1))
+intern-requires c κs =
+    let start = c .before .before .before .before .before .before .before .before .before .before in
+    let conclude = c .before .before .before .before .before .before .conclude in
+    (start .pre .room .0, new-fits _ _ _ _ _ _ _ _ (start .pre) _ (sym (conclude .ensures) ∙ c .before .before .before .before .w .given .1))
 
 same-length-2 : tie.Need-same-length-2
 same-length-2 c = search needs
 
 returns-2 : tie.Need-returns-2
-returns-2 c = ruling-new _ _ _ _ _ _ _ _ (c .before .before .before .before .before .before .before .before .before .before .before .before .before .pre) _ _ _ (sym (c .before .before .before .before .before .before .before .before .before .conclude .ensures) ∙ c .before .before .before .before .before .before .before .w .given .1) (sym (c .before .before .before .before .before .grounded2 .ensures) ∙ c .before .before .before .before .if2 .taken) (c .before .before .intern .ensures)
+returns-2 c =
+    let start = c .before .before .before .before .before .before .before .before .before .before .before .before .before in
+    let conclude = c .before .before .before .before .before .before .before .before .before .conclude in
+    let w = c .before .before .before .before .before .before .before .w in
+    ruling-new _ _ _ _ _ _ _ _ (start .pre) _ _ _ (sym (conclude .ensures) ∙ w .given .1) (sym (c .before .before .before .before .before .grounded2 .ensures) ∙ c .before .before .before .before .if2 .taken) (c .before .before .intern .ensures)
 
 same-length-3 : tie.Need-same-length-3
 same-length-3 c = search needs
@@ -53,13 +62,17 @@ same-length-4 : tie.Need-same-length-4
 same-length-4 c = search needs
 
 returns-4 : tie.Need-returns-4
-returns-4 c = ruling-known-missing _ _ _ _ _ _ _ _ (c .before .before .before .before .before .before .before .before .before .pre) _ (sym (c .before .before .before .before .before .conclude .ensures) ∙ c .before .before .before .p .given .1) (sym (c .before .grounded .ensures) ∙ c .if1 .left)
+returns-4 c =
+    let start = c .before .before .before .before .before .before .before .before .before in
+    ruling-known-missing _ _ _ _ _ _ _ _ (start .pre) _ (sym (c .before .before .before .before .before .conclude .ensures) ∙ c .before .before .before .p .given .1) (sym (c .before .grounded .ensures) ∙ c .if1 .left)
 
 same-length-5 : tie.Need-same-length-5
 same-length-5 c = search needs
 
 returns-5 : tie.Need-returns-5
-returns-5 c = ruling-new-missing _ _ _ _ _ _ _ _ (c .before .before .before .before .before .before .before .before .before .pre) _ (sym (c .before .before .before .before .before .conclude .ensures) ∙ c .before .before .before .w .given .1) (sym (c .before .grounded2 .ensures) ∙ c .if2 .left)
+returns-5 c =
+    let start = c .before .before .before .before .before .before .before .before .before in
+    ruling-new-missing _ _ _ _ _ _ _ _ (start .pre) _ (sym (c .before .before .before .before .before .conclude .ensures) ∙ c .before .before .before .w .given .1) (sym (c .before .grounded2 .ensures) ∙ c .if2 .left)
 
 pub apply-spec : {M : Type 1} → statement M
 apply-spec =

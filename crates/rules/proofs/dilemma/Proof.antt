@@ -28,11 +28,16 @@ dilemma-end-requires c κs = search needs
 
 returns : tie.Need-returns
 unfolding dilemma
-returns c = pass (c .before .before .before .before .before .before .before .kind .ensures) refl (c .before .before .before .before .before .before .if1 .taken) (pass (c .before .before .before .before .before .kind2 .ensures) refl (c .before .before .before .before .if2 .taken) (pass (c .before .before .before .left .ensures .0) (c .before .before .left2 .ensures .0) (c .before .if3 .taken) (c .dilemma-end .ensures)))
+returns c =
+    let kind = c .before .before .before .before .before .before .before .kind in
+    let if1 = c .before .before .before .before .before .before .if1 in
+    pass (kind .ensures) refl (if1 .taken) (pass (c .before .before .before .before .before .kind2 .ensures) refl (c .before .before .before .before .if2 .taken) (pass (c .before .before .before .left .ensures .0) (c .before .before .left2 .ensures .0) (c .before .if3 .taken) (c .dilemma-end .ensures)))
 
 returns-2 : tie.Need-returns-2
 unfolding dilemma
-returns-2 c = pass (c .before .before .before .before .before .before .kind .ensures) refl (c .before .before .before .before .before .if1 .taken) (pass (c .before .before .before .before .kind2 .ensures) refl (c .before .before .before .if2 .taken) (stop _ (c .before .before .left .ensures .0) (c .before .left2 .ensures .0) (c .if3 .left)))
+returns-2 c =
+    let kind = c .before .before .before .before .before .before .kind in
+    pass (kind .ensures) refl (c .before .before .before .before .before .if1 .taken) (pass (c .before .before .before .before .kind2 .ensures) refl (c .before .before .before .if2 .taken) (stop _ (c .before .before .left .ensures .0) (c .before .left2 .ensures .0) (c .if3 .left)))
 
 returns-3 : tie.Need-returns-3
 unfolding dilemma

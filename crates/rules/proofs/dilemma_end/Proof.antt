@@ -32,11 +32,18 @@ right-requires-4 c κs = search needs
 
 returns : tie.Need-returns
 unfolding dilemmaEnd
-returns c = pass (c .before .before .before .before .before .before .before .before .kind .ensures) refl (c .before .before .before .before .before .before .before .if1 .taken) (pass (c .before .before .before .before .before .before .right .ensures) (c .before .before .before .before .before .left .ensures .0) (c .before .before .before .before .if2 .taken) (pass (c .before .before .before .right2 .ensures) (c .before .before .right3 .ensures) (c .before .if3 .taken) (ap Known (c .right4 .ensures))))
+returns c =
+    let kind = c .before .before .before .before .before .before .before .before .kind in
+    let if1 = c .before .before .before .before .before .before .before .if1 in
+    let right = c .before .before .before .before .before .before .right in
+    pass (kind .ensures) refl (if1 .taken) (pass (right .ensures) (c .before .before .before .before .before .left .ensures .0) (c .before .before .before .before .if2 .taken) (pass (c .before .before .before .right2 .ensures) (c .before .before .right3 .ensures) (c .before .if3 .taken) (ap Known (c .right4 .ensures))))
 
 returns-2 : tie.Need-returns-2
 unfolding dilemmaEnd
-returns-2 c = pass (c .before .before .before .before .before .before .before .kind .ensures) refl (c .before .before .before .before .before .before .if1 .taken) (pass (c .before .before .before .before .before .right .ensures) (c .before .before .before .before .left .ensures .0) (c .before .before .before .if2 .taken) (stop _ (c .before .before .right2 .ensures) (c .before .right3 .ensures) (c .if3 .left)))
+returns-2 c =
+    let kind = c .before .before .before .before .before .before .before .kind in
+    let if1 = c .before .before .before .before .before .before .if1 in
+    pass (kind .ensures) refl (if1 .taken) (pass (c .before .before .before .before .before .right .ensures) (c .before .before .before .before .left .ensures .0) (c .before .before .before .if2 .taken) (stop _ (c .before .before .right2 .ensures) (c .before .right3 .ensures) (c .if3 .left)))
 
 returns-3 : tie.Need-returns-3
 unfolding dilemmaEnd

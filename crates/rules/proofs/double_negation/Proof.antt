@@ -25,11 +25,16 @@ left-requires-2 c κs = search needs
 
 returns : tie.Need-returns
 unfolding doubleNegation
-returns c = pass (c .before .before .before .before .before .kind .ensures) refl (c .before .before .before .before .if1 .taken) (pass (c .before .before .kind2 .ensures ∙ ap (kindAt (c .before .before .before .before .before .before .before .args .t .now)) (c .before .before .before .left .ensures .0)) refl (c .before .if2 .taken) (ap Known (c .left2 .ensures .0 ∙ ap (leftAt (c .before .before .before .before .before .before .before .args .t .now)) (c .before .before .before .left .ensures .0))))
+returns c =
+    let start = c .before .before .before .before .before .before .before in
+    let left = c .before .before .before .left in
+    pass (c .before .before .before .before .before .kind .ensures) refl (c .before .before .before .before .if1 .taken) (pass (c .before .before .kind2 .ensures ∙ ap (kindAt (start .args .t .now)) (left .ensures .0)) refl (c .before .if2 .taken) (ap Known (c .left2 .ensures .0 ∙ ap (leftAt (start .args .t .now)) (left .ensures .0))))
 
 returns-2 : tie.Need-returns-2
 unfolding doubleNegation
-returns-2 c = pass (c .before .before .before .before .kind .ensures) refl (c .before .before .before .if1 .taken) (stop _ (c .before .kind2 .ensures ∙ ap (kindAt (c .before .before .before .before .before .before .args .t .now)) (c .before .before .left .ensures .0)) refl (c .if2 .left))
+returns-2 c =
+    let start = c .before .before .before .before .before .before in
+    pass (c .before .before .before .before .kind .ensures) refl (c .before .before .before .if1 .taken) (stop _ (c .before .kind2 .ensures ∙ ap (kindAt (start .args .t .now)) (c .before .before .left .ensures .0)) refl (c .if2 .left))
 
 returns-3 : tie.Need-returns-3
 unfolding doubleNegation

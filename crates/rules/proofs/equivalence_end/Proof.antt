@@ -36,7 +36,11 @@ word-requires c κs = search needs
 
 returns : tie.Need-returns
 unfolding equivalenceEnd
-returns c = pass (c .before .before .before .before .before .before .before .before .left .ensures .0) (c .before .before .before .before .before .before .before .right .ensures) (c .before .before .before .before .before .before .if1 .taken) (pass (c .before .before .before .before .before .right2 .ensures) (c .before .before .before .before .left2 .ensures .0) (c .before .before .before .if2 .taken) (ap New (c .word .ensures .0 ∙ ap₂ (word 7) (c .before .before .left3 .ensures .0) (c .before .right3 .ensures))))
+returns c =
+    let left = c .before .before .before .before .before .before .before .before .left in
+    let right = c .before .before .before .before .before .before .before .right in
+    let if1 = c .before .before .before .before .before .before .if1 in
+    pass (left .ensures .0) (right .ensures) (if1 .taken) (pass (c .before .before .before .before .before .right2 .ensures) (c .before .before .before .before .left2 .ensures .0) (c .before .before .before .if2 .taken) (ap New (c .word .ensures .0 ∙ ap₂ (word 7) (c .before .before .left3 .ensures .0) (c .before .right3 .ensures))))
 
 returns-2 : tie.Need-returns-2
 unfolding equivalenceEnd

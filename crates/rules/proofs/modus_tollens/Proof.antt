@@ -35,11 +35,17 @@ word-requires c κs = search needs
 
 returns : tie.Need-returns
 unfolding modusTollens
-returns c = pass (c .before .before .before .before .before .before .before .before .kind .ensures) refl (c .before .before .before .before .before .before .before .if1 .taken) (pass (c .before .before .before .before .before .before .kind2 .ensures) refl (c .before .before .before .before .before .if2 .taken) (pass (c .before .before .before .before .right .ensures) (c .before .before .before .left .ensures .0) (c .before .before .if3 .taken) (ap New (c .word .ensures .0 ∙ ap (λ (l : ℕ). word 3 l 0) (c .before .left2 .ensures .0)))))
+returns c =
+    let kind = c .before .before .before .before .before .before .before .before .kind in
+    let if1 = c .before .before .before .before .before .before .before .if1 in
+    let kind2 = c .before .before .before .before .before .before .kind2 in
+    pass (kind .ensures) refl (if1 .taken) (pass (kind2 .ensures) refl (c .before .before .before .before .before .if2 .taken) (pass (c .before .before .before .before .right .ensures) (c .before .before .before .left .ensures .0) (c .before .before .if3 .taken) (ap New (c .word .ensures .0 ∙ ap (λ (l : ℕ). word 3 l 0) (c .before .left2 .ensures .0)))))
 
 returns-2 : tie.Need-returns-2
 unfolding modusTollens
-returns-2 c = pass (c .before .before .before .before .before .before .kind .ensures) refl (c .before .before .before .before .before .if1 .taken) (pass (c .before .before .before .before .kind2 .ensures) refl (c .before .before .before .if2 .taken) (stop _ (c .before .before .right .ensures) (c .before .left .ensures .0) (c .if3 .left)))
+returns-2 c =
+    let kind = c .before .before .before .before .before .before .kind in
+    pass (kind .ensures) refl (c .before .before .before .before .before .if1 .taken) (pass (c .before .before .before .before .kind2 .ensures) refl (c .before .before .before .if2 .taken) (stop _ (c .before .before .right .ensures) (c .before .left .ensures .0) (c .if3 .left)))
 
 returns-3 : tie.Need-returns-3
 unfolding modusTollens

@@ -10,31 +10,24 @@ use Rattle.tokens.proofs.rule.Lts as lts
 use Rattle.words.proofs.put.Reads as put-reads
 use Rattle.words.proofs.put4.Reads as put4-reads
 
--- src/lib.rt:33:5
 put4-requires : tie.Need-put4-requires
 put4-requires c κs = search needs
 
--- src/lib.rt:34:19
 add-put : tie.Need-add-put
 add-put c = search needs
 
--- src/lib.rt:34:5
 put-requires : tie.Need-put-requires
 put-requires c κs = search needs
 
--- src/lib.rt:35:5
 add-result : tie.Need-add-result
 add-result c = search needs
 
--- src/lib.rt:35:5
 add-result-2 : tie.Need-add-result-2
 add-result-2 c = search needs
 
--- src/lib.rt:29:1
 same-length : tie.Need-same-length
 same-length c = search needs
 
--- src/lib.rt:29:1
 returns : tie.Need-returns
 returns c =
     let n : ℕ = c .before .before .before .before .before .before .before .before .before .args .n in

@@ -32,7 +32,11 @@ same-length : tie.Need-same-length
 same-length c = search needs
 
 returns : tie.Need-returns
-returns c = around-here _ _ _ (c .before .before .before .before .before .before .before .before .before .before .before .before .before .start .ensures) _ _ _ _ (c .before .before .before .before .before .before .before .before .before .before .before .dots .ensures) (c .before .before .before .before .before .before .before .bytes .ensures) (c .before .before .before .before .if1 .taken) (c .before .before .here .ensures)
+returns c =
+    let start = c .before .before .before .before .before .before .before .before .before .before .before .before .before .start in
+    let dots = c .before .before .before .before .before .before .before .before .before .before .before .dots in
+    let bytes = c .before .before .before .before .before .before .before .bytes in
+    around-here _ _ _ (start .ensures) _ _ _ _ (dots .ensures) (bytes .ensures) (c .before .before .before .before .if1 .taken) (c .before .before .here .ensures)
 
 slice-aggregate-words : tie.Need-slice-aggregate-words
 slice-aggregate-words c = search needs
@@ -45,7 +49,11 @@ same-length-2 c = search needs
 
 returns-2 : tie.Need-returns-2
 unfolding text upTo after piece pick
-returns-2 c = around-end _ _ _ (c .before .before .before .before .before .before .before .before .before .before .before .before .before .before .start .ensures) _ _ _ _ (c .before .before .before .before .before .before .before .before .before .before .before .before .dots .ensures) (c .before .before .before .before .before .before .before .before .bytes .ensures) (c .before .before .before .before .before .if1 .left) (c .before .before .words .ensures)
+returns-2 c =
+    let start = c .before .before .before .before .before .before .before .before .before .before .before .before .before .before .start in
+    let dots = c .before .before .before .before .before .before .before .before .before .before .before .before .dots in
+    let bytes = c .before .before .before .before .before .before .before .before .bytes in
+    around-end _ _ _ (start .ensures) _ _ _ _ (dots .ensures) (bytes .ensures) (c .before .before .before .before .before .if1 .left) (c .before .before .words .ensures)
 
 pub around-spec : {M : Type 1} → statement M
 around-spec =

@@ -49,7 +49,12 @@ same-length c = search needs
 
 returns : tie.Need-returns
 unfolding phraseText kinds text upTo after piece pick
-returns c = rw (← c .before .before .before .before .before .before .before .before .before .before .before .before .before .before .before .before .before .before .facts-of .ensures, ← c .before .before .before .before .before .before .before .before .before .at .ensures) (three _ _ _ _ _ _ _ (c .before .before .before .before .before .before .before .before .before .before .before .before .before .before .fill .ensures) (c .before .before .before .before .before .before .before .fill2 .ensures) (c .before .before .words .ensures))
+returns c =
+    let facts-of = c .before .before .before .before .before .before .before .before .before .before .before .before .before .before .before .before .before .before .facts-of in
+    let fill = c .before .before .before .before .before .before .before .before .before .before .before .before .before .before .fill in
+    let at1 = c .before .before .before .before .before .before .before .before .before .at in
+    let fill2 = c .before .before .before .before .before .before .before .fill2 in
+    rw (← facts-of .ensures, ← at1 .ensures) (three _ _ _ _ _ _ _ (fill .ensures) (fill2 .ensures) (c .before .before .words .ensures))
 
 pub at-phrase-spec : {M : Type 1} → statement M
 at-phrase-spec =

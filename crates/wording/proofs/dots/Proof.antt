@@ -1,7 +1,6 @@
 -- `dots` meets its contract: the mark, or nothing.
-use mathlib.Core.Path.{refl}
 use Rattle.wording.specs.Page.{pick, write}
-use Rattle.wording.specs.Text.{text, past, upTo, after, piece}
+use Rattle.wording.specs.Text.{text, upTo, after, piece}
 use Rattle.wording.specs.Answers.{dotsText}
 use borrow.Author.Needs.{needs}
 use Rattle.wording.proofs.dots.Statement.{statement}

@@ -46,7 +46,14 @@ at-requires-11 c κs = search needs
 
 returns : tie.Need-returns
 unfolding factsOf
-returns c = rw (c .before .before .before .before .before .before .before .before .before .before .before .at .ensures, c .before .before .before .before .before .before .before .before .before .before .operand .ensures, c .before .before .before .before .before .before .before .before .before .at2 .ensures, c .before .before .before .before .before .before .before .before .at3 .ensures, c .before .before .before .before .before .before .before .at4 .ensures, c .before .before .before .before .before .before .at5 .ensures, c .before .before .before .before .before .at6 .ensures, c .before .before .before .before .at7 .ensures, c .before .before .before .at8 .ensures, c .before .before .at9 .ensures, c .before .at10 .ensures, c .at11 .ensures)
+returns c =
+    let at1 = c .before .before .before .before .before .before .before .before .before .before .before .at in
+    let operand = c .before .before .before .before .before .before .before .before .before .before .operand in
+    let at2 = c .before .before .before .before .before .before .before .before .before .at2 in
+    let at3 = c .before .before .before .before .before .before .before .before .at3 in
+    let at4 = c .before .before .before .before .before .before .before .at4 in
+    let at5 = c .before .before .before .before .before .before .at5 in
+    rw (at1 .ensures, operand .ensures, at2 .ensures, at3 .ensures, at4 .ensures, at5 .ensures, c .before .before .before .before .before .at6 .ensures, c .before .before .before .before .at7 .ensures, c .before .before .before .at8 .ensures, c .before .before .at9 .ensures, c .before .at10 .ensures, c .at11 .ensures)
 
 pub facts-of-spec : {M : Type 1} → statement M
 facts-of-spec =

@@ -20,7 +20,9 @@ same-length : tie.Need-same-length
 same-length c = search needs
 
 returns : tie.Need-returns
-returns c = fails-sheet _ [] _ _ _ _ _ (c .before .before .before .before .before .before .before .before .refused .ensures) (c .before .before .before .before .before .if1 .taken) (c .before .before .before .before .if2 .taken) (c .before .before .in-sheet .ensures)
+returns c =
+    let refused = c .before .before .before .before .before .before .before .before .refused in
+    fails-sheet _ [] _ _ _ _ _ (refused .ensures) (c .before .before .before .before .before .if1 .taken) (c .before .before .before .before .if2 .taken) (c .before .before .in-sheet .ensures)
 
 same-length-2 : tie.Need-same-length-2
 same-length-2 c = search needs

@@ -20,7 +20,9 @@ same-length : tie.Need-same-length
 same-length c = search needs
 
 returns : tie.Need-returns
-returns c = falls-sheet _ _ _ _ _ _ _ (c .before .before .before .before .before .before .before .before .refused .ensures) (c .before .before .before .before .before .if1 .taken) (c .before .before .before .before .if2 .taken) (c .before .before .in-sheet .ensures)
+returns c =
+    let refused = c .before .before .before .before .before .before .before .before .refused in
+    falls-sheet _ _ _ _ _ _ _ (refused .ensures) (c .before .before .before .before .before .if1 .taken) (c .before .before .before .before .if2 .taken) (c .before .before .in-sheet .ensures)
 
 in-certificate-requires : tie.Need-in-certificate-requires
 in-certificate-requires c κs = search needs
@@ -29,7 +31,9 @@ same-length-2 : tie.Need-same-length-2
 same-length-2 c = search needs
 
 returns-2 : tie.Need-returns-2
-returns-2 c = falls-certificate _ _ _ _ _ _ _ (c .before .before .before .before .before .before .before .before .refused .ensures) (c .before .before .before .before .before .if1 .taken) (c .before .before .before .before .if2 .left) (c .before .before .in-certificate .ensures)
+returns-2 c =
+    let refused = c .before .before .before .before .before .before .before .before .refused in
+    falls-certificate _ _ _ _ _ _ _ (refused .ensures) (c .before .before .before .before .before .if1 .taken) (c .before .before .before .before .if2 .left) (c .before .before .in-certificate .ensures)
 
 same-length-3 : tie.Need-same-length-3
 same-length-3 c = search needs

@@ -45,7 +45,11 @@ same-length c = search needs
 
 returns : tie.Need-returns
 unfolding hereText text upTo after piece pick
-returns c = rw (← c .before .before .before .before .before .before .before .before .before .before .before .before .wide .ensures .0) (three _ _ _ _ _ _ _ (c .before .before .before .before .before .before .before .before .before .before .fill .ensures) (c .before .before .before .before .before .before .bytes .ensures) (c .before .before .dots .ensures))
+returns c =
+    let wide = c .before .before .before .before .before .before .before .before .before .before .before .before .wide in
+    let fill = c .before .before .before .before .before .before .before .before .before .before .fill in
+    let bytes = c .before .before .before .before .before .before .bytes in
+    rw (← wide .ensures .0) (three _ _ _ _ _ _ _ (fill .ensures) (bytes .ensures) (c .before .before .dots .ensures))
 
 pub here-spec : {M : Type 1} → statement M
 here-spec =

@@ -1,7 +1,7 @@
 -- `in_decimal` meets its contract, by what its callees ensure.
 use Rattle.wording.proofs.Bytes.{bytes-none, bytes-some}
-use Rattle.wording.specs.Page.{pick, write}
-use Rattle.wording.specs.Text.{text, past, upTo, after, piece}
+use Rattle.wording.specs.Page.{pick}
+use Rattle.wording.specs.Text.{text, upTo, after, piece}
 use borrow.Author.Needs.{needs}
 use Rattle.wording.proofs.in_decimal.Statement.{statement}
 use Rattle.wording.proofs.in_decimal.Tie as tie
@@ -48,7 +48,12 @@ same-length-2 c = search needs
 
 returns-2 : tie.Need-returns-2
 unfolding text piece upTo after pick
-returns-2 c = bytes-some _ _ _ _ _ _ (c .before .before .before .before .before .before .before .before .before .before .before .before .before .before .before .if1 .left) (c .before .before .before .before .before .before .before .before .before .before .before .before .wide .ensures .0) (c .before .before .before .before .before .before .before .before .before .before .before .number .ensures) (c .before .before .before .before .before .before .before .bytes .ensures) (c .before .before .words2 .ensures)
+returns-2 c =
+    let if1 = c .before .before .before .before .before .before .before .before .before .before .before .before .before .before .before .if1 in
+    let wide = c .before .before .before .before .before .before .before .before .before .before .before .before .wide in
+    let number = c .before .before .before .before .before .before .before .before .before .before .before .number in
+    let bytes = c .before .before .before .before .before .before .before .bytes in
+    bytes-some _ _ _ _ _ _ (if1 .left) (wide .ensures .0) (number .ensures) (bytes .ensures) (c .before .before .words2 .ensures)
 
 pub in-decimal-spec : {M : Type 1} → statement M
 in-decimal-spec =

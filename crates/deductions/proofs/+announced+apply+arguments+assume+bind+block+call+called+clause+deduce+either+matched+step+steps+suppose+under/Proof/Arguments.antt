@@ -12,110 +12,155 @@ use Rattle.deductions.proofs.with.Reads as with-reads
 use Rattle.words.proofs.at.Reads as at-reads
 use Rattle.deductions.proofs.+announced+apply+arguments+assume+bind+block+call+called+clause+deduce+either+matched+step+steps+suppose+under.Proof.Falling.{arguments-at, arguments-below, either-below}
 
--- src/lib.rt:274:9
 pub arguments-returns : (t : ℕ) → arguments-lts.Need-returns (at-reads.Asked, at-reads.Learnt, either-below t, either.Post, with-reads.Asked, with-reads.Learnt, arguments-below t, arguments.Post, join-reads.Asked, join-reads.Learnt) (arguments-at t) arguments.Post
 arguments-returns t c = args-none _ _ _ _ _ _ _ _ (c .if1 .taken)
 
--- src/lib.rt:276:9
 pub arguments-at-requires : (t : ℕ) → arguments-lts.Need-at-requires (at-reads.Asked, at-reads.Learnt, either-below t, either.Post, with-reads.Asked, with-reads.Learnt, arguments-below t, arguments.Post, join-reads.Asked, join-reads.Learnt) (arguments-at t) arguments.Post
 arguments-at-requires t c κs = search needs
 
--- src/lib.rt:277:11
 pub arguments-either-requires : (t : ℕ) → arguments-lts.Need-either-requires (at-reads.Asked, at-reads.Learnt, either-below t, either.Post, with-reads.Asked, with-reads.Learnt, arguments-below t, arguments.Post, join-reads.Asked, join-reads.Learnt) (arguments-at t) arguments.Post
-arguments-either-requires t c κs = (omega (arith, c .before .before .before .before .before .before .before .before .before .before .before .before .pre .0), argument-ready _ (c .before .before .before .before .before .before .before .before .before .before .before .before .args .site .depth) _ _ _ _ _ _ _ (c .before .before .before .before .at .ensures) (c .before .before .before .before .before .if1 .left) (c .before .before .before .before .before .before .before .before .before .before .before .before .pre .1))
+arguments-either-requires t c κs =
+    let start = c .before .before .before .before .before .before .before .before .before .before .before .before in
+    (omega (arith, start .pre .0), argument-ready _ (start .args .site .depth) _ _ _ _ _ _ _ (c .before .before .before .before .at .ensures) (c .before .before .before .before .before .if1 .left) (start .pre .1))
 
--- src/lib.rt:278:22
 pub arguments-enum-known-v : (t : ℕ) → arguments-lts.Need-enum-known-v (at-reads.Asked, at-reads.Learnt, either-below t, either.Post, with-reads.Asked, with-reads.Learnt, arguments-below t, arguments.Post, join-reads.Asked, join-reads.Learnt) (arguments-at t) arguments.Post
 arguments-enum-known-v t c = search needs
 
--- src/lib.rt:279:17
 pub arguments-with-requires : (t : ℕ) → arguments-lts.Need-with-requires (at-reads.Asked, at-reads.Learnt, either-below t, either.Post, with-reads.Asked, with-reads.Learnt, arguments-below t, arguments.Post, join-reads.Asked, join-reads.Learnt) (arguments-at t) arguments.Post
-arguments-with-requires t c κs = argument-fits _ _ _ _ _ _ _ _ _ (c .before .before .before .before .before .before .before .before .before .before .before .before .before .before .before .before .before .at .ensures) (c .before .before .before .before .before .before .before .before .before .before .before .before .before .before .before .before .before .before .if1 .left) _ _ _ (rw (c .before .before .v .given .1) at (c .before .before .before .before .before .before .before .before .before .before .before .before .either .ensures)) (c .before .before .before .before .before .before .before .before .before .before .before .before .before .before .before .before .before .before .before .before .before .before .before .before .before .pre .1)
+arguments-with-requires t c κs =
+    let start = c .before .before .before .before .before .before .before .before .before .before .before .before .before .before .before .before .before .before .before .before .before .before .before .before .before in
+    let if1 = c .before .before .before .before .before .before .before .before .before .before .before .before .before .before .before .before .before .before .if1 in
+    let at1 = c .before .before .before .before .before .before .before .before .before .before .before .before .before .before .before .before .before .at in
+    let either′ = c .before .before .before .before .before .before .before .before .before .before .before .before .either in
+    argument-fits _ _ _ _ _ _ _ _ _ (at1 .ensures) (if1 .left) _ _ _ (rw (c .before .before .v .given .1) at (either′ .ensures)) (start .pre .1)
 
--- src/lib.rt:291:17
 pub arguments-add-arguments : (t : ℕ) → arguments-lts.Need-add-arguments (at-reads.Asked, at-reads.Learnt, either-below t, either.Post, with-reads.Asked, with-reads.Learnt, arguments-below t, arguments.Post, join-reads.Asked, join-reads.Learnt) (arguments-at t) arguments.Post
-arguments-add-arguments t c = let i = (c .before .before .before .before .before .before .before .before .before .before .before .before .before .before .before .before .before .before .before .before .before .before .before .before .before .before .before .before .before .before .before .before .before .pre .1) .inside in let w = (c .before .before .before .before .before .before .before .before .before .before .before .before .before .before .before .before .before .before .before .before .before .before .before .before .before .before .before .before .before .before .before .before .before .pre .1) .ready .setting .world .short in omega (arith, i, w)
+arguments-add-arguments t c =
+    let start = c .before .before .before .before .before .before .before .before .before .before .before .before .before .before .before .before .before .before .before .before .before .before .before .before .before .before .before .before .before .before .before .before .before in
+    let i = (start .pre .1) .inside in let w = (start .pre .1) .ready .setting .world .short in omega (arith, i, w)
 
--- src/lib.rt:292:17
 pub arguments-sub-arguments : (t : ℕ) → arguments-lts.Need-sub-arguments (at-reads.Asked, at-reads.Learnt, either-below t, either.Post, with-reads.Asked, with-reads.Learnt, arguments-below t, arguments.Post, join-reads.Asked, join-reads.Learnt) (arguments-at t) arguments.Post
-arguments-sub-arguments t c = omega (arith, c .before .before .before .before .before .before .before .before .before .before .before .before .before .before .before .before .before .before .before .before .before .before .before .before .before .before .if1 .left)
+arguments-sub-arguments t c =
+    let if1 = c .before .before .before .before .before .before .before .before .before .before .before .before .before .before .before .before .before .before .before .before .before .before .before .before .before .before .if1 in
+    omega (arith, if1 .left)
 
--- src/lib.rt:281:19
 pub arguments-arguments-requires : (t : ℕ) → arguments-lts.Need-arguments-requires (at-reads.Asked, at-reads.Learnt, either-below t, either.Post, with-reads.Asked, with-reads.Learnt, arguments-below t, arguments.Post, join-reads.Asked, join-reads.Learnt) (arguments-at t) arguments.Post
-arguments-arguments-requires t c κs = (omega (arith, c .before .before .before .before .before .before .before .before .before .before .before .before .before .before .before .before .before .before .before .before .before .before .before .before .before .before .before .before .before .before .before .before .before .pre .0, c .before .before .before .before .before .before .before .before .before .before .before .before .before .before .before .before .before .before .before .before .before .before .before .before .before .before .if1 .left), rw (c .before .before .before .before .before .before .before .with .ensures .0, c .before .before .before .before .before .before .before .with .ensures .1) (arguments-ready _ _ _ _ _ _ _ _ _ (c .before .before .before .before .before .before .before .before .before .before .before .before .before .before .before .before .before .before .before .before .before .before .before .before .before .at .ensures) (c .before .before .before .before .before .before .before .before .before .before .before .before .before .before .before .before .before .before .before .before .before .before .before .before .before .before .if1 .left) _ _ _ (rw (c .before .before .before .before .before .before .before .before .before .before .v .given .1) at (c .before .before .before .before .before .before .before .before .before .before .before .before .before .before .before .before .before .before .before .before .either .ensures)) (c .before .before .before .before .before .before .before .before .before .before .before .before .before .before .before .before .before .before .before .before .before .before .before .before .before .before .before .before .before .before .before .before .before .pre .1)))
+arguments-arguments-requires t c κs =
+    let start = c .before .before .before .before .before .before .before .before .before .before .before .before .before .before .before .before .before .before .before .before .before .before .before .before .before .before .before .before .before .before .before .before .before in
+    let if1 = c .before .before .before .before .before .before .before .before .before .before .before .before .before .before .before .before .before .before .before .before .before .before .before .before .before .before .if1 in
+    let at1 = c .before .before .before .before .before .before .before .before .before .before .before .before .before .before .before .before .before .before .before .before .before .before .before .before .before .at in
+    let either′ = c .before .before .before .before .before .before .before .before .before .before .before .before .before .before .before .before .before .before .before .before .either in
+    let v = c .before .before .before .before .before .before .before .before .before .before .v in
+    let with1 = c .before .before .before .before .before .before .before .with in
+    (omega (arith, start .pre .0, if1 .left), rw (with1 .ensures .0, with1 .ensures .1) (arguments-ready _ _ _ _ _ _ _ _ _ (at1 .ensures) (if1 .left) _ _ _ (rw (v .given .1) at (either′ .ensures)) (start .pre .1)))
 
--- src/lib.rt:294:33
 pub arguments-enum-known-e : (t : ℕ) → arguments-lts.Need-enum-known-e (at-reads.Asked, at-reads.Learnt, either-below t, either.Post, with-reads.Asked, with-reads.Learnt, arguments-below t, arguments.Post, join-reads.Asked, join-reads.Learnt) (arguments-at t) arguments.Post
 arguments-enum-known-e t c = search needs
 
--- src/lib.rt:294:66
 pub arguments-join-requires : (t : ℕ) → arguments-lts.Need-join-requires (at-reads.Asked, at-reads.Learnt, either-below t, either.Post, with-reads.Asked, with-reads.Learnt, arguments-below t, arguments.Post, join-reads.Asked, join-reads.Learnt) (arguments-at t) arguments.Post
-arguments-join-requires t c κs = join-after _ _ _ _ _ _ _ _ _ (c .before .before .before .before .before .before .before .before .before .before .before .before .before .before .before .before .before .before .before .before .before .before .before .before .before .before .before .before .before .before .before .before .before .before .before .before .before .before .at .ensures) (c .before .before .before .before .before .before .before .before .before .before .before .before .before .before .before .before .before .before .before .before .before .before .before .before .before .before .before .before .before .before .before .before .before .before .before .before .before .before .before .if1 .left) _ _ _ (rw (c .before .before .before .before .before .before .before .before .before .before .before .before .before .before .before .before .before .before .before .before .before .before .before .v .given .1) at (c .before .before .before .before .before .before .before .before .before .before .before .before .before .before .before .before .before .before .before .before .before .before .before .before .before .before .before .before .before .before .before .before .before .either .ensures)) (c .before .before .before .before .before .before .before .before .before .before .before .before .before .before .before .before .before .before .before .before .before .before .before .before .before .before .before .before .before .before .before .before .before .before .before .before .before .before .before .before .before .before .before .before .before .before .pre .1) _ _ _ (rw (c .before .before .e .given .1, c .before .before .before .before .before .before .before .before .before .before .before .before .before .before .before .before .before .before .before .before .with .ensures .0, c .before .before .before .before .before .before .before .before .before .before .before .before .before .before .before .before .before .before .before .before .with .ensures .1) at (c .before .before .before .before .before .before .before .before .before .before .before .before .arguments .ensures))
+arguments-join-requires t c κs =
+    let start = c .before .before .before .before .before .before .before .before .before .before .before .before .before .before .before .before .before .before .before .before .before .before .before .before .before .before .before .before .before .before .before .before .before .before .before .before .before .before .before .before .before .before .before .before .before .before in
+    let if1 = c .before .before .before .before .before .before .before .before .before .before .before .before .before .before .before .before .before .before .before .before .before .before .before .before .before .before .before .before .before .before .before .before .before .before .before .before .before .before .before .if1 in
+    let at1 = c .before .before .before .before .before .before .before .before .before .before .before .before .before .before .before .before .before .before .before .before .before .before .before .before .before .before .before .before .before .before .before .before .before .before .before .before .before .before .at in
+    let either′ = c .before .before .before .before .before .before .before .before .before .before .before .before .before .before .before .before .before .before .before .before .before .before .before .before .before .before .before .before .before .before .before .before .before .either in
+    let v = c .before .before .before .before .before .before .before .before .before .before .before .before .before .before .before .before .before .before .before .before .before .before .before .v in
+    let with1 = c .before .before .before .before .before .before .before .before .before .before .before .before .before .before .before .before .before .before .before .before .with in
+    let arguments′ = c .before .before .before .before .before .before .before .before .before .before .before .before .arguments in
+    join-after _ _ _ _ _ _ _ _ _ (at1 .ensures) (if1 .left) _ _ _ (rw (v .given .1) at (either′ .ensures)) (start .pre .1) _ _ _ (rw (c .before .before .e .given .1, with1 .ensures .0, with1 .ensures .1) at (arguments′ .ensures))
 
--- src/lib.rt:295:34
 pub arguments-enum-known-x : (t : ℕ) → arguments-lts.Need-enum-known-x (at-reads.Asked, at-reads.Learnt, either-below t, either.Post, with-reads.Asked, with-reads.Learnt, arguments-below t, arguments.Post, join-reads.Asked, join-reads.Learnt) (arguments-at t) arguments.Post
 arguments-enum-known-x t c = search needs
 
--- src/lib.rt:298:26
 pub arguments-enum-known-x-2 : (t : ℕ) → arguments-lts.Need-enum-known-x-2 (at-reads.Asked, at-reads.Learnt, either-below t, either.Post, with-reads.Asked, with-reads.Learnt, arguments-below t, arguments.Post, join-reads.Asked, join-reads.Learnt) (arguments-at t) arguments.Post
 arguments-enum-known-x-2 t c = search needs
 
--- src/lib.rt:257:1
 pub arguments-same-length : (t : ℕ) → arguments-lts.Need-same-length (at-reads.Asked, at-reads.Learnt, either-below t, either.Post, with-reads.Asked, with-reads.Learnt, arguments-below t, arguments.Post, join-reads.Asked, join-reads.Learnt) (arguments-at t) arguments.Post
-arguments-same-length t c = c .before .before .before .before .before .before .before .before .before .before .before .before .before .before .before .arguments .kept .0 ∙ c .before .before .before .before .before .before .before .before .before .before .before .before .before .before .before .before .before .before .before .before .before .before .before .before .before .before .before .before .before .before .before .before .before .before .before .before .either .kept .0
+arguments-same-length t c =
+    let either′ = c .before .before .before .before .before .before .before .before .before .before .before .before .before .before .before .before .before .before .before .before .before .before .before .before .before .before .before .before .before .before .before .before .before .before .before .before .either in
+    let arguments′ = c .before .before .before .before .before .before .before .before .before .before .before .before .before .before .before .arguments in
+    arguments′ .kept .0 ∙ either′ .kept .0
 
--- src/lib.rt:257:1
 pub arguments-same-length-2 : (t : ℕ) → arguments-lts.Need-same-length-2 (at-reads.Asked, at-reads.Learnt, either-below t, either.Post, with-reads.Asked, with-reads.Learnt, arguments-below t, arguments.Post, join-reads.Asked, join-reads.Learnt) (arguments-at t) arguments.Post
-arguments-same-length-2 t c = c .before .before .before .before .before .before .before .before .before .before .before .before .before .before .before .arguments .kept .1 .0 ∙ c .before .before .before .before .before .before .before .before .before .before .before .before .before .before .before .before .before .before .before .before .before .before .before .with .kept .0 ∙ c .before .before .before .before .before .before .before .before .before .before .before .before .before .before .before .before .before .before .before .before .before .before .before .before .before .before .before .before .before .before .before .before .before .before .before .before .either .kept .1 .0
+arguments-same-length-2 t c =
+    let either′ = c .before .before .before .before .before .before .before .before .before .before .before .before .before .before .before .before .before .before .before .before .before .before .before .before .before .before .before .before .before .before .before .before .before .before .before .before .either in
+    let with1 = c .before .before .before .before .before .before .before .before .before .before .before .before .before .before .before .before .before .before .before .before .before .before .before .with in
+    let arguments′ = c .before .before .before .before .before .before .before .before .before .before .before .before .before .before .before .arguments in
+    arguments′ .kept .1 .0 ∙ with1 .kept .0 ∙ either′ .kept .1 .0
 
--- src/lib.rt:257:1
 pub arguments-same-length-3 : (t : ℕ) → arguments-lts.Need-same-length-3 (at-reads.Asked, at-reads.Learnt, either-below t, either.Post, with-reads.Asked, with-reads.Learnt, arguments-below t, arguments.Post, join-reads.Asked, join-reads.Learnt) (arguments-at t) arguments.Post
-arguments-same-length-3 t c = c .before .before .join .kept .0 ∙ c .before .before .before .before .before .before .before .before .before .before .before .before .before .before .before .arguments .kept .1 .1 .0 ∙ c .before .before .before .before .before .before .before .before .before .before .before .before .before .before .before .before .before .before .before .before .before .before .before .before .before .before .before .before .before .before .before .before .before .before .before .before .either .kept .1 .1 .0
+arguments-same-length-3 t c =
+    let either′ = c .before .before .before .before .before .before .before .before .before .before .before .before .before .before .before .before .before .before .before .before .before .before .before .before .before .before .before .before .before .before .before .before .before .before .before .before .either in
+    let arguments′ = c .before .before .before .before .before .before .before .before .before .before .before .before .before .before .before .arguments in
+    c .before .before .join .kept .0 ∙ arguments′ .kept .1 .1 .0 ∙ either′ .kept .1 .1 .0
 
--- src/lib.rt:257:1
 pub arguments-same-length-4 : (t : ℕ) → arguments-lts.Need-same-length-4 (at-reads.Asked, at-reads.Learnt, either-below t, either.Post, with-reads.Asked, with-reads.Learnt, arguments-below t, arguments.Post, join-reads.Asked, join-reads.Learnt) (arguments-at t) arguments.Post
-arguments-same-length-4 t c = c .before .before .before .before .before .before .before .before .before .before .before .before .before .before .before .arguments .kept .1 .1 .1 .0 ∙ c .before .before .before .before .before .before .before .before .before .before .before .before .before .before .before .before .before .before .before .before .before .before .before .before .before .before .before .before .before .before .before .before .before .before .before .before .either .kept .1 .1 .1 .0
+arguments-same-length-4 t c =
+    let either′ = c .before .before .before .before .before .before .before .before .before .before .before .before .before .before .before .before .before .before .before .before .before .before .before .before .before .before .before .before .before .before .before .before .before .before .before .before .either in
+    let arguments′ = c .before .before .before .before .before .before .before .before .before .before .before .before .before .before .before .arguments in
+    arguments′ .kept .1 .1 .1 .0 ∙ either′ .kept .1 .1 .1 .0
 
--- src/lib.rt:257:1
 pub arguments-returns-2 : (t : ℕ) → arguments-lts.Need-returns-2 (at-reads.Asked, at-reads.Learnt, either-below t, either.Post, with-reads.Asked, with-reads.Learnt, arguments-below t, arguments.Post, join-reads.Asked, join-reads.Learnt) (arguments-at t) arguments.Post
-arguments-returns-2 t c = rw (c .before .before .join .ensures .0, c .before .before .join .ensures .1) (argument-then _ _ _ _ _ _ _ _ _ (c .before .before .before .before .before .before .before .before .before .before .before .before .before .before .before .before .before .before .before .before .before .before .before .before .before .before .before .before .before .before .before .before .before .before .before .before .before .before .before .before .before .at .ensures) (c .before .before .before .before .before .before .before .before .before .before .before .before .before .before .before .before .before .before .before .before .before .before .before .before .before .before .before .before .before .before .before .before .before .before .before .before .before .before .before .before .before .before .if1 .left) _ _ _ (rw (c .before .before .before .before .before .before .before .before .before .before .before .before .before .before .before .before .before .before .before .before .before .before .before .before .before .before .v .given .1) at (c .before .before .before .before .before .before .before .before .before .before .before .before .before .before .before .before .before .before .before .before .before .before .before .before .before .before .before .before .before .before .before .before .before .before .before .before .either .ensures)) (c .before .before .before .before .before .before .before .before .before .before .before .before .before .before .before .before .before .before .before .before .before .before .before .before .before .before .before .before .before .before .before .before .before .before .before .before .before .before .before .before .before .before .before .before .before .before .before .before .before .pre .1) _ _ _ (rw (c .before .before .before .before .before .e .given .1, c .before .before .before .before .before .before .before .before .before .before .before .before .before .before .before .before .before .before .before .before .before .before .before .with .ensures .0, c .before .before .before .before .before .before .before .before .before .before .before .before .before .before .before .before .before .before .before .before .before .before .before .with .ensures .1) at (c .before .before .before .before .before .before .before .before .before .before .before .before .before .before .before .arguments .ensures)))
+arguments-returns-2 t c =
+    let start = c .before .before .before .before .before .before .before .before .before .before .before .before .before .before .before .before .before .before .before .before .before .before .before .before .before .before .before .before .before .before .before .before .before .before .before .before .before .before .before .before .before .before .before .before .before .before .before .before .before in
+    let if1 = c .before .before .before .before .before .before .before .before .before .before .before .before .before .before .before .before .before .before .before .before .before .before .before .before .before .before .before .before .before .before .before .before .before .before .before .before .before .before .before .before .before .before .if1 in
+    let at1 = c .before .before .before .before .before .before .before .before .before .before .before .before .before .before .before .before .before .before .before .before .before .before .before .before .before .before .before .before .before .before .before .before .before .before .before .before .before .before .before .before .before .at in
+    let either′ = c .before .before .before .before .before .before .before .before .before .before .before .before .before .before .before .before .before .before .before .before .before .before .before .before .before .before .before .before .before .before .before .before .before .before .before .before .either in
+    let v = c .before .before .before .before .before .before .before .before .before .before .before .before .before .before .before .before .before .before .before .before .before .before .before .before .before .before .v in
+    let with1 = c .before .before .before .before .before .before .before .before .before .before .before .before .before .before .before .before .before .before .before .before .before .before .before .with in
+    let arguments′ = c .before .before .before .before .before .before .before .before .before .before .before .before .before .before .before .arguments in
+    rw (c .before .before .join .ensures .0, c .before .before .join .ensures .1) (argument-then _ _ _ _ _ _ _ _ _ (at1 .ensures) (if1 .left) _ _ _ (rw (v .given .1) at (either′ .ensures)) (start .pre .1) _ _ _ (rw (c .before .before .before .before .before .e .given .1, with1 .ensures .0, with1 .ensures .1) at (arguments′ .ensures)))
 
--- src/lib.rt:257:1
 pub arguments-same-length-5 : (t : ℕ) → arguments-lts.Need-same-length-5 (at-reads.Asked, at-reads.Learnt, either-below t, either.Post, with-reads.Asked, with-reads.Learnt, arguments-below t, arguments.Post, join-reads.Asked, join-reads.Learnt) (arguments-at t) arguments.Post
-arguments-same-length-5 t c = c .before .before .before .before .before .before .before .before .before .before .before .arguments .kept .0 ∙ c .before .before .before .before .before .before .before .before .before .before .before .before .before .before .before .before .before .before .before .before .before .before .before .before .before .before .before .before .before .before .before .before .either .kept .0
+arguments-same-length-5 t c =
+    let either′ = c .before .before .before .before .before .before .before .before .before .before .before .before .before .before .before .before .before .before .before .before .before .before .before .before .before .before .before .before .before .before .before .before .either in
+    let arguments′ = c .before .before .before .before .before .before .before .before .before .before .before .arguments in
+    arguments′ .kept .0 ∙ either′ .kept .0
 
--- src/lib.rt:257:1
 pub arguments-same-length-6 : (t : ℕ) → arguments-lts.Need-same-length-6 (at-reads.Asked, at-reads.Learnt, either-below t, either.Post, with-reads.Asked, with-reads.Learnt, arguments-below t, arguments.Post, join-reads.Asked, join-reads.Learnt) (arguments-at t) arguments.Post
-arguments-same-length-6 t c = c .before .before .before .before .before .before .before .before .before .before .before .arguments .kept .1 .0 ∙ c .before .before .before .before .before .before .before .before .before .before .before .before .before .before .before .before .before .before .before .with .kept .0 ∙ c .before .before .before .before .before .before .before .before .before .before .before .before .before .before .before .before .before .before .before .before .before .before .before .before .before .before .before .before .before .before .before .before .either .kept .1 .0
+arguments-same-length-6 t c =
+    let either′ = c .before .before .before .before .before .before .before .before .before .before .before .before .before .before .before .before .before .before .before .before .before .before .before .before .before .before .before .before .before .before .before .before .either in
+    let with1 = c .before .before .before .before .before .before .before .before .before .before .before .before .before .before .before .before .before .before .before .with in
+    let arguments′ = c .before .before .before .before .before .before .before .before .before .before .before .arguments in
+    arguments′ .kept .1 .0 ∙ with1 .kept .0 ∙ either′ .kept .1 .0
 
--- src/lib.rt:257:1
 pub arguments-same-length-7 : (t : ℕ) → arguments-lts.Need-same-length-7 (at-reads.Asked, at-reads.Learnt, either-below t, either.Post, with-reads.Asked, with-reads.Learnt, arguments-below t, arguments.Post, join-reads.Asked, join-reads.Learnt) (arguments-at t) arguments.Post
-arguments-same-length-7 t c = c .before .before .before .before .before .before .before .before .before .before .before .arguments .kept .1 .1 .0 ∙ c .before .before .before .before .before .before .before .before .before .before .before .before .before .before .before .before .before .before .before .before .before .before .before .before .before .before .before .before .before .before .before .before .either .kept .1 .1 .0
+arguments-same-length-7 t c =
+    let either′ = c .before .before .before .before .before .before .before .before .before .before .before .before .before .before .before .before .before .before .before .before .before .before .before .before .before .before .before .before .before .before .before .before .either in
+    let arguments′ = c .before .before .before .before .before .before .before .before .before .before .before .arguments in
+    arguments′ .kept .1 .1 .0 ∙ either′ .kept .1 .1 .0
 
--- src/lib.rt:257:1
 pub arguments-same-length-8 : (t : ℕ) → arguments-lts.Need-same-length-8 (at-reads.Asked, at-reads.Learnt, either-below t, either.Post, with-reads.Asked, with-reads.Learnt, arguments-below t, arguments.Post, join-reads.Asked, join-reads.Learnt) (arguments-at t) arguments.Post
-arguments-same-length-8 t c = c .before .before .before .before .before .before .before .before .before .before .before .arguments .kept .1 .1 .1 .0 ∙ c .before .before .before .before .before .before .before .before .before .before .before .before .before .before .before .before .before .before .before .before .before .before .before .before .before .before .before .before .before .before .before .before .either .kept .1 .1 .1 .0
+arguments-same-length-8 t c =
+    let either′ = c .before .before .before .before .before .before .before .before .before .before .before .before .before .before .before .before .before .before .before .before .before .before .before .before .before .before .before .before .before .before .before .before .either in
+    let arguments′ = c .before .before .before .before .before .before .before .before .before .before .before .arguments in
+    arguments′ .kept .1 .1 .1 .0 ∙ either′ .kept .1 .1 .1 .0
 
--- src/lib.rt:257:1
 pub arguments-returns-3 : (t : ℕ) → arguments-lts.Need-returns-3 (at-reads.Asked, at-reads.Learnt, either-below t, either.Post, with-reads.Asked, with-reads.Learnt, arguments-below t, arguments.Post, join-reads.Asked, join-reads.Learnt) (arguments-at t) arguments.Post
-arguments-returns-3 t c = arguments-fail _ _ _ _ _ _ _ _ _ (c .before .before .before .before .before .before .before .before .before .before .before .before .before .before .before .before .before .before .before .before .before .before .before .before .before .before .before .before .before .before .before .before .before .before .before .before .before .at .ensures) (c .before .before .before .before .before .before .before .before .before .before .before .before .before .before .before .before .before .before .before .before .before .before .before .before .before .before .before .before .before .before .before .before .before .before .before .before .before .before .if1 .left) _ _ _ (rw (c .before .before .before .before .before .before .before .before .before .before .before .before .before .before .before .before .before .before .before .before .before .before .v .given .1) at (c .before .before .before .before .before .before .before .before .before .before .before .before .before .before .before .before .before .before .before .before .before .before .before .before .before .before .before .before .before .before .before .before .either .ensures)) (c .before .before .before .before .before .before .before .before .before .before .before .before .before .before .before .before .before .before .before .before .before .before .before .before .before .before .before .before .before .before .before .before .before .before .before .before .before .before .before .before .before .before .before .before .before .pre .1) _ _ (rw (c .before .x .given .1, c .before .before .before .before .before .before .before .before .before .before .before .before .before .before .before .before .before .before .before .with .ensures .0, c .before .before .before .before .before .before .before .before .before .before .before .before .before .before .before .before .before .before .before .with .ensures .1) at (c .before .before .before .before .before .before .before .before .before .before .before .arguments .ensures))
+arguments-returns-3 t c =
+    let start = c .before .before .before .before .before .before .before .before .before .before .before .before .before .before .before .before .before .before .before .before .before .before .before .before .before .before .before .before .before .before .before .before .before .before .before .before .before .before .before .before .before .before .before .before .before in
+    let if1 = c .before .before .before .before .before .before .before .before .before .before .before .before .before .before .before .before .before .before .before .before .before .before .before .before .before .before .before .before .before .before .before .before .before .before .before .before .before .before .if1 in
+    let at1 = c .before .before .before .before .before .before .before .before .before .before .before .before .before .before .before .before .before .before .before .before .before .before .before .before .before .before .before .before .before .before .before .before .before .before .before .before .before .at in
+    let either′ = c .before .before .before .before .before .before .before .before .before .before .before .before .before .before .before .before .before .before .before .before .before .before .before .before .before .before .before .before .before .before .before .before .either in
+    let v = c .before .before .before .before .before .before .before .before .before .before .before .before .before .before .before .before .before .before .before .before .before .before .v in
+    let with1 = c .before .before .before .before .before .before .before .before .before .before .before .before .before .before .before .before .before .before .before .with in
+    let arguments′ = c .before .before .before .before .before .before .before .before .before .before .before .arguments in
+    arguments-fail _ _ _ _ _ _ _ _ _ (at1 .ensures) (if1 .left) _ _ _ (rw (v .given .1) at (either′ .ensures)) (start .pre .1) _ _ (rw (c .before .x .given .1, with1 .ensures .0, with1 .ensures .1) at (arguments′ .ensures))
 
--- src/lib.rt:257:1
 pub arguments-same-length-9 : (t : ℕ) → arguments-lts.Need-same-length-9 (at-reads.Asked, at-reads.Learnt, either-below t, either.Post, with-reads.Asked, with-reads.Learnt, arguments-below t, arguments.Post, join-reads.Asked, join-reads.Learnt) (arguments-at t) arguments.Post
 arguments-same-length-9 t c = c .before .before .before .before .before .before .before .before .before .before .before .either .kept .0
 
--- src/lib.rt:257:1
 pub arguments-same-length-10 : (t : ℕ) → arguments-lts.Need-same-length-10 (at-reads.Asked, at-reads.Learnt, either-below t, either.Post, with-reads.Asked, with-reads.Learnt, arguments-below t, arguments.Post, join-reads.Asked, join-reads.Learnt) (arguments-at t) arguments.Post
 arguments-same-length-10 t c = c .before .before .before .before .before .before .before .before .before .before .before .either .kept .1 .0
 
--- src/lib.rt:257:1
 pub arguments-same-length-11 : (t : ℕ) → arguments-lts.Need-same-length-11 (at-reads.Asked, at-reads.Learnt, either-below t, either.Post, with-reads.Asked, with-reads.Learnt, arguments-below t, arguments.Post, join-reads.Asked, join-reads.Learnt) (arguments-at t) arguments.Post
 arguments-same-length-11 t c = c .before .before .before .before .before .before .before .before .before .before .before .either .kept .1 .1 .0
 
--- src/lib.rt:257:1
 pub arguments-same-length-12 : (t : ℕ) → arguments-lts.Need-same-length-12 (at-reads.Asked, at-reads.Learnt, either-below t, either.Post, with-reads.Asked, with-reads.Learnt, arguments-below t, arguments.Post, join-reads.Asked, join-reads.Learnt) (arguments-at t) arguments.Post
 arguments-same-length-12 t c = c .before .before .before .before .before .before .before .before .before .before .before .either .kept .1 .1 .1 .0
 
--- src/lib.rt:257:1
 pub arguments-returns-4 : (t : ℕ) → arguments-lts.Need-returns-4 (at-reads.Asked, at-reads.Learnt, either-below t, either.Post, with-reads.Asked, with-reads.Learnt, arguments-below t, arguments.Post, join-reads.Asked, join-reads.Learnt) (arguments-at t) arguments.Post
-arguments-returns-4 t c = argument-fails _ _ _ _ _ _ _ _ _ (c .before .before .before .before .before .before .before .before .before .before .before .before .before .before .before .before .at .ensures) (c .before .before .before .before .before .before .before .before .before .before .before .before .before .before .before .before .before .if1 .left) _ _ (rw (c .before .x2 .given .1) at (c .before .before .before .before .before .before .before .before .before .before .before .either .ensures))
+arguments-returns-4 t c =
+    let if1 = c .before .before .before .before .before .before .before .before .before .before .before .before .before .before .before .before .before .if1 in
+    let at1 = c .before .before .before .before .before .before .before .before .before .before .before .before .before .before .before .before .at in
+    let either′ = c .before .before .before .before .before .before .before .before .before .before .before .either in
+    argument-fails _ _ _ _ _ _ _ _ _ (at1 .ensures) (if1 .left) _ _ (rw (c .before .x2 .given .1) at (either′ .ensures))

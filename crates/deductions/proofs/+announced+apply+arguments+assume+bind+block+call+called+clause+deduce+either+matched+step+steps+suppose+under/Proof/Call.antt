@@ -13,74 +13,81 @@ use Rattle.expressions.proofs.evaluate.Reads as evaluate-reads
 use Rattle.words.proofs.at.Reads as at-reads
 use Rattle.deductions.proofs.+announced+apply+arguments+assume+bind+block+call+called+clause+deduce+either+matched+step+steps+suppose+under.Proof.Falling.{call-at, called-below}
 
--- src/lib.rt:171:32
 pub call-mul-at : (t : ℕ) → call-lts.Need-mul-at (at-reads.Asked, at-reads.Learnt, evaluate-reads.Asked, evaluate-reads.Learnt, called-below t, called.Post) (call-at t) call.Post
 call-mul-at t c = let s = row-small _ _ _ _ _ _ _ _ _ (c .before .before .before .before .before .before .pre .1 .0) in omega (arith, s)
 
--- src/lib.rt:171:32
 pub call-add-at : (t : ℕ) → call-lts.Need-add-at (at-reads.Asked, at-reads.Learnt, evaluate-reads.Asked, evaluate-reads.Learnt, called-below t, called.Post) (call-at t) call.Post
 call-add-at t c = let s = row-small _ _ _ _ _ _ _ _ _ (c .before .before .before .before .before .before .pre .1 .0) in omega (arith, s)
 
--- src/lib.rt:171:9
 pub call-at-requires : (t : ℕ) → call-lts.Need-at-requires (at-reads.Asked, at-reads.Learnt, evaluate-reads.Asked, evaluate-reads.Learnt, called-below t, called.Post) (call-at t) call.Post
 call-at-requires t c κs = search needs
 
--- src/lib.rt:172:36
 pub call-mul-at-2 : (t : ℕ) → call-lts.Need-mul-at-2 (at-reads.Asked, at-reads.Learnt, evaluate-reads.Asked, evaluate-reads.Learnt, called-below t, called.Post) (call-at t) call.Post
 call-mul-at-2 t c = let s = row-small _ _ _ _ _ _ _ _ _ (c .before .before .before .before .before .before .before .pre .1 .0) in omega (arith, s)
 
--- src/lib.rt:172:36
 pub call-add-at-2 : (t : ℕ) → call-lts.Need-add-at-2 (at-reads.Asked, at-reads.Learnt, evaluate-reads.Asked, evaluate-reads.Learnt, called-below t, called.Post) (call-at t) call.Post
 call-add-at-2 t c = let s = row-small _ _ _ _ _ _ _ _ _ (c .before .before .before .before .before .before .before .pre .1 .0) in omega (arith, s)
 
--- src/lib.rt:172:9
 pub call-at-requires-2 : (t : ℕ) → call-lts.Need-at-requires-2 (at-reads.Asked, at-reads.Learnt, evaluate-reads.Asked, evaluate-reads.Learnt, called-below t, called.Post) (call-at t) call.Post
 call-at-requires-2 t c κs = search needs
 
--- src/lib.rt:176:11
 pub call-evaluate-requires : (t : ℕ) → call-lts.Need-evaluate-requires (at-reads.Asked, at-reads.Learnt, evaluate-reads.Asked, evaluate-reads.Learnt, called-below t, called.Post) (call-at t) call.Post
-call-evaluate-requires t c κs = ready-expression _ _ _ _ _ _ _ _ _ _ (c .before .before .before .before .before .before .before .before .before .before .before .pre .1 .0) (call-row _ (c .before .before .before .before .before .before .before .before .before .before .before .args .site .depth) _ _ _ _ _ _ (c .before .before .before .before .before .before .before .before .before .before .before .pre .1 .1) (c .before .before .before .before .at .ensures) (c .before .before .before .at2 .ensures) (c .before .before .before .before .before .before .before .before .before .before .before .pre .1 .0))
+call-evaluate-requires t c κs =
+    let start = c .before .before .before .before .before .before .before .before .before .before .before in
+    ready-expression _ _ _ _ _ _ _ _ _ _ (start .pre .1 .0) (call-row _ (start .args .site .depth) _ _ _ _ _ _ (start .pre .1 .1) (c .before .before .before .before .at .ensures) (c .before .before .before .at2 .ensures) (start .pre .1 .0))
 
--- src/lib.rt:177:23
 pub call-enum-known-v : (t : ℕ) → call-lts.Need-enum-known-v (at-reads.Asked, at-reads.Learnt, evaluate-reads.Asked, evaluate-reads.Learnt, called-below t, called.Post) (call-at t) call.Post
 call-enum-known-v t c = search needs
 
--- src/lib.rt:182:13
 pub call-called-requires : (t : ℕ) → call-lts.Need-called-requires (at-reads.Asked, at-reads.Learnt, evaluate-reads.Asked, evaluate-reads.Learnt, called-below t, called.Post) (call-at t) call.Post
-call-called-requires t c κs = (omega (arith, c .before .before .before .before .before .before .before .before .before .before .before .before .before .before .before .before .before .before .before .before .before .before .before .pre .0), callable _ _ _ _ _ _ _ _ (c .before .before .before .before .before .before .before .before .before .before .before .before .before .before .before .before .before .before .before .before .before .before .before .pre .1 .1) (c .before .before .before .before .before .before .before .before .before .before .before .before .before .before .before .before .at .ensures) (c .before .before .before .before .before .before .before .before .before .before .before .before .before .before .before .at2 .ensures) _ _ _ _ (c .before .before .before .before .before .before .before .before .before .before .before .before .before .before .before .before .before .before .before .before .before .before .before .pre .1 .0) (rw (c .before .before .before .before .before .v .given .1) at (c .before .before .before .before .before .before .before .before .before .before .before .evaluate .ensures)))
+call-called-requires t c κs =
+    let start = c .before .before .before .before .before .before .before .before .before .before .before .before .before .before .before .before .before .before .before .before .before .before .before in
+    let at1 = c .before .before .before .before .before .before .before .before .before .before .before .before .before .before .before .before .at in
+    let at2 = c .before .before .before .before .before .before .before .before .before .before .before .before .before .before .before .at2 in
+    let evaluate = c .before .before .before .before .before .before .before .before .before .before .before .evaluate in
+    (omega (arith, start .pre .0), callable _ _ _ _ _ _ _ _ (start .pre .1 .1) (at1 .ensures) (at2 .ensures) _ _ _ _ (start .pre .1 .0) (rw (c .before .before .before .before .before .v .given .1) at (evaluate .ensures)))
 
--- src/lib.rt:196:26
 pub call-enum-known-x : (t : ℕ) → call-lts.Need-enum-known-x (at-reads.Asked, at-reads.Learnt, evaluate-reads.Asked, evaluate-reads.Learnt, called-below t, called.Post) (call-at t) call.Post
 call-enum-known-x t c = search needs
 
--- src/lib.rt:157:1
 pub call-same-length : (t : ℕ) → call-lts.Need-same-length (at-reads.Asked, at-reads.Learnt, evaluate-reads.Asked, evaluate-reads.Learnt, called-below t, called.Post) (call-at t) call.Post
-call-same-length t c = c .before .before .before .before .before .before .before .before .called .kept .0 ∙ c .before .before .before .before .before .before .before .before .before .before .before .before .before .before .before .before .before .before .before .before .evaluate .kept .0
+call-same-length t c =
+    let evaluate = c .before .before .before .before .before .before .before .before .before .before .before .before .before .before .before .before .before .before .before .before .evaluate in
+    let called′ = c .before .before .before .before .before .before .before .before .called in
+    called′ .kept .0 ∙ evaluate .kept .0
 
--- src/lib.rt:157:1
 pub call-same-length-2 : (t : ℕ) → call-lts.Need-same-length-2 (at-reads.Asked, at-reads.Learnt, evaluate-reads.Asked, evaluate-reads.Learnt, called-below t, called.Post) (call-at t) call.Post
-call-same-length-2 t c = c .before .before .before .before .before .before .before .before .called .kept .1 .0 ∙ c .before .before .before .before .before .before .before .before .before .before .before .before .before .before .before .before .before .before .before .before .evaluate .kept .1 .0
+call-same-length-2 t c =
+    let evaluate = c .before .before .before .before .before .before .before .before .before .before .before .before .before .before .before .before .before .before .before .before .evaluate in
+    let called′ = c .before .before .before .before .before .before .before .before .called in
+    called′ .kept .1 .0 ∙ evaluate .kept .1 .0
 
--- src/lib.rt:157:1
 pub call-same-length-3 : (t : ℕ) → call-lts.Need-same-length-3 (at-reads.Asked, at-reads.Learnt, evaluate-reads.Asked, evaluate-reads.Learnt, called-below t, called.Post) (call-at t) call.Post
 call-same-length-3 t c = c .before .before .before .before .before .before .before .before .called .kept .1 .1 .0
 
--- src/lib.rt:157:1
 pub call-same-length-4 : (t : ℕ) → call-lts.Need-same-length-4 (at-reads.Asked, at-reads.Learnt, evaluate-reads.Asked, evaluate-reads.Learnt, called-below t, called.Post) (call-at t) call.Post
 call-same-length-4 t c = c .before .before .before .before .before .before .before .before .called .kept .1 .1 .1 .0
 
--- src/lib.rt:157:1
 pub call-returns : (t : ℕ) → call-lts.Need-returns (at-reads.Asked, at-reads.Learnt, evaluate-reads.Asked, evaluate-reads.Learnt, called-below t, called.Post) (call-at t) call.Post
-call-returns t c = call-is _ _ _ _ _ _ _ _ (c .before .before .before .before .before .before .before .before .before .before .before .before .before .before .before .before .before .before .before .before .before .before .before .before .before .before .before .before .before .before .before .before .pre .1 .1) (c .before .before .before .before .before .before .before .before .before .before .before .before .before .before .before .before .before .before .before .before .before .before .before .before .before .at .ensures) (c .before .before .before .before .before .before .before .before .before .before .before .before .before .before .before .before .before .before .before .before .before .before .before .before .at2 .ensures) _ _ _ _ _ (rw (c .before .before .before .before .before .before .before .before .before .before .before .before .before .before .v .given .1) at (c .before .before .before .before .before .before .before .before .before .before .before .before .before .before .before .before .before .before .before .before .evaluate .ensures)) (c .before .before .before .before .before .before .before .before .called .ensures)
+call-returns t c =
+    let start = c .before .before .before .before .before .before .before .before .before .before .before .before .before .before .before .before .before .before .before .before .before .before .before .before .before .before .before .before .before .before .before .before in
+    let at1 = c .before .before .before .before .before .before .before .before .before .before .before .before .before .before .before .before .before .before .before .before .before .before .before .before .before .at in
+    let at2 = c .before .before .before .before .before .before .before .before .before .before .before .before .before .before .before .before .before .before .before .before .before .before .before .before .at2 in
+    let evaluate = c .before .before .before .before .before .before .before .before .before .before .before .before .before .before .before .before .before .before .before .before .evaluate in
+    let v = c .before .before .before .before .before .before .before .before .before .before .before .before .before .before .v in
+    let called′ = c .before .before .before .before .before .before .before .before .called in
+    call-is _ _ _ _ _ _ _ _ (start .pre .1 .1) (at1 .ensures) (at2 .ensures) _ _ _ _ _ (rw (v .given .1) at (evaluate .ensures)) (called′ .ensures)
 
--- src/lib.rt:157:1
 pub call-same-length-5 : (t : ℕ) → call-lts.Need-same-length-5 (at-reads.Asked, at-reads.Learnt, evaluate-reads.Asked, evaluate-reads.Learnt, called-below t, called.Post) (call-at t) call.Post
 call-same-length-5 t c = c .before .before .before .before .before .before .before .evaluate .kept .0
 
--- src/lib.rt:157:1
 pub call-same-length-6 : (t : ℕ) → call-lts.Need-same-length-6 (at-reads.Asked, at-reads.Learnt, evaluate-reads.Asked, evaluate-reads.Learnt, called-below t, called.Post) (call-at t) call.Post
 call-same-length-6 t c = c .before .before .before .before .before .before .before .evaluate .kept .1 .0
 
--- src/lib.rt:157:1
 pub call-returns-2 : (t : ℕ) → call-lts.Need-returns-2 (at-reads.Asked, at-reads.Learnt, evaluate-reads.Asked, evaluate-reads.Learnt, called-below t, called.Post) (call-at t) call.Post
-call-returns-2 t c = call-refused _ _ _ _ _ _ _ _ (c .before .before .before .before .before .before .before .before .before .before .before .before .before .before .before .before .before .before .before .pre .1 .1) (c .before .before .before .before .before .before .before .before .before .before .before .before .at .ensures) (c .before .before .before .before .before .before .before .before .before .before .before .at2 .ensures) _ _ (rw (c .before .x .given .1) at (c .before .before .before .before .before .before .before .evaluate .ensures))
+call-returns-2 t c =
+    let start = c .before .before .before .before .before .before .before .before .before .before .before .before .before .before .before .before .before .before .before in
+    let at1 = c .before .before .before .before .before .before .before .before .before .before .before .before .at in
+    let at2 = c .before .before .before .before .before .before .before .before .before .before .before .at2 in
+    let evaluate = c .before .before .before .before .before .before .before .evaluate in
+    call-refused _ _ _ _ _ _ _ _ (start .pre .1 .1) (at1 .ensures) (at2 .ensures) _ _ (rw (c .before .x .given .1) at (evaluate .ensures))

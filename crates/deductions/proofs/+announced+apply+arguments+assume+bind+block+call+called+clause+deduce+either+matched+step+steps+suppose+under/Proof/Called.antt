@@ -12,72 +12,81 @@ use Rattle.deductions.proofs.+announced+apply+arguments+assume+bind+blo
 use Rattle.bindings.proofs.scope.Reads as scope-reads
 use Rattle.deductions.proofs.+announced+apply+arguments+assume+bind+block+call+called+clause+deduce+either+matched+step+steps+suppose+under.Proof.Falling.{apply-below, arguments-below, called-at}
 
--- src/lib.rt:217:9
 pub called-scope-requires : (t : ℕ) → called-lts.Need-scope-requires (scope-reads.Asked, scope-reads.Learnt, arguments-below t, arguments.Post, apply-below t, apply.Post) (called-at t) called.Post
 called-scope-requires t c κs = search needs
 
--- src/lib.rt:228:9
 pub called-mul-arguments : (t : ℕ) → called-lts.Need-mul-arguments (scope-reads.Asked, scope-reads.Learnt, arguments-below t, arguments.Post, apply-below t, apply.Post) (called-at t) called.Post
 called-mul-arguments t c = let s = row-small _ _ _ _ _ _ _ _ _ (c .before .before .before .before .before .before .before .before .before .before .before .pre .1 .ready) in omega (arith, s)
 
--- src/lib.rt:228:9
 pub called-add-arguments : (t : ℕ) → called-lts.Need-add-arguments (scope-reads.Asked, scope-reads.Learnt, arguments-below t, arguments.Post, apply-below t, apply.Post) (called-at t) called.Post
 called-add-arguments t c = let s = row-small _ _ _ _ _ _ _ _ _ (c .before .before .before .before .before .before .before .before .before .before .before .pre .1 .ready) in omega (arith, s)
 
--- src/lib.rt:218:11
 pub called-arguments-requires : (t : ℕ) → called-lts.Need-arguments-requires (scope-reads.Asked, scope-reads.Learnt, arguments-below t, arguments.Post, apply-below t, apply.Post) (called-at t) called.Post
 called-arguments-requires t c κs =
     let L = call-list _ (c .before .before .before .before .before .before .before .before .before .before .before .args .site .depth) _ _ _ _ _ _ (c .before .before .before .before .before .before .before .before .before .before .before .pre .1) in
     (omega (arith, c .before .before .before .before .before .before .before .before .before .before .before .pre .0, L .few), rw (c .before .before .before .before .scope .ensures) L)
 
--- src/lib.rt:231:25
 pub called-enum-known-e : (t : ℕ) → called-lts.Need-enum-known-e (scope-reads.Asked, scope-reads.Learnt, arguments-below t, arguments.Post, apply-below t, apply.Post) (called-at t) called.Post
 called-enum-known-e t c = search needs
 
--- src/lib.rt:237:13
 pub called-apply-requires : (t : ℕ) → called-lts.Need-apply-requires (scope-reads.Asked, scope-reads.Learnt, arguments-below t, arguments.Post, apply-below t, apply.Post) (called-at t) called.Post
-called-apply-requires t c κs = (omega (arith, c .before .before .before .before .before .before .before .before .before .before .before .before .before .before .before .before .before .before .before .before .before .before .before .before .before .before .before .pre .0), applicable _ _ _ _ _ _ _ _ (c .before .before .before .before .before .before .before .before .before .before .before .before .before .before .before .before .before .before .before .before .before .before .before .before .before .before .before .pre .1) _ _ _ (rw (c .before .before .before .before .before .e .given .1, c .before .before .before .before .before .before .before .before .before .before .before .before .before .before .before .before .before .before .before .before .scope .ensures) at (c .before .before .before .before .before .before .before .before .before .before .before .before .before .before .before .arguments .ensures)))
+called-apply-requires t c κs =
+    let start = c .before .before .before .before .before .before .before .before .before .before .before .before .before .before .before .before .before .before .before .before .before .before .before .before .before .before .before in
+    let scope = c .before .before .before .before .before .before .before .before .before .before .before .before .before .before .before .before .before .before .before .before .scope in
+    let arguments′ = c .before .before .before .before .before .before .before .before .before .before .before .before .before .before .before .arguments in
+    (omega (arith, start .pre .0), applicable _ _ _ _ _ _ _ _ (start .pre .1) _ _ _ (rw (c .before .before .before .before .before .e .given .1, scope .ensures) at (arguments′ .ensures)))
 
--- src/lib.rt:251:26
 pub called-enum-known-x : (t : ℕ) → called-lts.Need-enum-known-x (scope-reads.Asked, scope-reads.Learnt, arguments-below t, arguments.Post, apply-below t, apply.Post) (called-at t) called.Post
 called-enum-known-x t c = search needs
 
--- src/lib.rt:201:1
 pub called-same-length : (t : ℕ) → called-lts.Need-same-length (scope-reads.Asked, scope-reads.Learnt, arguments-below t, arguments.Post, apply-below t, apply.Post) (called-at t) called.Post
-called-same-length t c = c .before .before .before .before .before .before .before .before .apply .kept .0 ∙ c .before .before .before .before .before .before .before .before .before .before .before .before .before .before .before .before .before .before .before .before .before .before .before .before .arguments .kept .0
+called-same-length t c =
+    let arguments′ = c .before .before .before .before .before .before .before .before .before .before .before .before .before .before .before .before .before .before .before .before .before .before .before .before .arguments in
+    let apply′ = c .before .before .before .before .before .before .before .before .apply in
+    apply′ .kept .0 ∙ arguments′ .kept .0
 
--- src/lib.rt:201:1
 pub called-same-length-2 : (t : ℕ) → called-lts.Need-same-length-2 (scope-reads.Asked, scope-reads.Learnt, arguments-below t, arguments.Post, apply-below t, apply.Post) (called-at t) called.Post
-called-same-length-2 t c = c .before .before .before .before .before .before .before .before .apply .kept .1 .0 ∙ c .before .before .before .before .before .before .before .before .before .before .before .before .before .before .before .before .before .before .before .before .before .before .before .before .arguments .kept .1 .0
+called-same-length-2 t c =
+    let arguments′ = c .before .before .before .before .before .before .before .before .before .before .before .before .before .before .before .before .before .before .before .before .before .before .before .before .arguments in
+    let apply′ = c .before .before .before .before .before .before .before .before .apply in
+    apply′ .kept .1 .0 ∙ arguments′ .kept .1 .0
 
--- src/lib.rt:201:1
 pub called-same-length-3 : (t : ℕ) → called-lts.Need-same-length-3 (scope-reads.Asked, scope-reads.Learnt, arguments-below t, arguments.Post, apply-below t, apply.Post) (called-at t) called.Post
-called-same-length-3 t c = c .before .before .before .before .before .before .before .before .apply .kept .1 .1 .0 ∙ c .before .before .before .before .before .before .before .before .before .before .before .before .before .before .before .before .before .before .before .before .before .before .before .before .arguments .kept .1 .1 .0
+called-same-length-3 t c =
+    let arguments′ = c .before .before .before .before .before .before .before .before .before .before .before .before .before .before .before .before .before .before .before .before .before .before .before .before .arguments in
+    let apply′ = c .before .before .before .before .before .before .before .before .apply in
+    apply′ .kept .1 .1 .0 ∙ arguments′ .kept .1 .1 .0
 
--- src/lib.rt:201:1
 pub called-same-length-4 : (t : ℕ) → called-lts.Need-same-length-4 (scope-reads.Asked, scope-reads.Learnt, arguments-below t, arguments.Post, apply-below t, apply.Post) (called-at t) called.Post
-called-same-length-4 t c = c .before .before .before .before .before .before .before .before .apply .kept .1 .1 .1 .0 ∙ c .before .before .before .before .before .before .before .before .before .before .before .before .before .before .before .before .before .before .before .before .before .before .before .before .arguments .kept .1 .1 .1 .0
+called-same-length-4 t c =
+    let arguments′ = c .before .before .before .before .before .before .before .before .before .before .before .before .before .before .before .before .before .before .before .before .before .before .before .before .arguments in
+    let apply′ = c .before .before .before .before .before .before .before .before .apply in
+    apply′ .kept .1 .1 .1 .0 ∙ arguments′ .kept .1 .1 .1 .0
 
--- src/lib.rt:201:1
 pub called-returns : (t : ℕ) → called-lts.Need-returns (scope-reads.Asked, scope-reads.Learnt, arguments-below t, arguments.Post, apply-below t, apply.Post) (called-at t) called.Post
-called-returns t c = called-is _ _ _ _ _ _ _ _ (c .before .before .before .before .before .before .before .before .before .before .before .before .before .before .before .before .before .before .before .before .before .before .before .before .before .before .before .before .before .before .before .before .before .before .before .before .pre .1) _ _ _ (rw (c .before .before .before .before .before .before .before .before .before .before .before .before .before .before .e .given .1, c .before .before .before .before .before .before .before .before .before .before .before .before .before .before .before .before .before .before .before .before .before .before .before .before .before .before .before .before .before .scope .ensures) at (c .before .before .before .before .before .before .before .before .before .before .before .before .before .before .before .before .before .before .before .before .before .before .before .before .arguments .ensures)) _ (c .before .before .before .before .before .before .before .before .apply .ensures)
+called-returns t c =
+    let start = c .before .before .before .before .before .before .before .before .before .before .before .before .before .before .before .before .before .before .before .before .before .before .before .before .before .before .before .before .before .before .before .before .before .before .before .before in
+    let scope = c .before .before .before .before .before .before .before .before .before .before .before .before .before .before .before .before .before .before .before .before .before .before .before .before .before .before .before .before .before .scope in
+    let arguments′ = c .before .before .before .before .before .before .before .before .before .before .before .before .before .before .before .before .before .before .before .before .before .before .before .before .arguments in
+    let e = c .before .before .before .before .before .before .before .before .before .before .before .before .before .before .e in
+    let apply′ = c .before .before .before .before .before .before .before .before .apply in
+    called-is _ _ _ _ _ _ _ _ (start .pre .1) _ _ _ (rw (e .given .1, scope .ensures) at (arguments′ .ensures)) _ (apply′ .ensures)
 
--- src/lib.rt:201:1
 pub called-same-length-5 : (t : ℕ) → called-lts.Need-same-length-5 (scope-reads.Asked, scope-reads.Learnt, arguments-below t, arguments.Post, apply-below t, apply.Post) (called-at t) called.Post
 called-same-length-5 t c = c .before .before .before .before .before .before .before .before .before .before .before .arguments .kept .0
 
--- src/lib.rt:201:1
 pub called-same-length-6 : (t : ℕ) → called-lts.Need-same-length-6 (scope-reads.Asked, scope-reads.Learnt, arguments-below t, arguments.Post, apply-below t, apply.Post) (called-at t) called.Post
 called-same-length-6 t c = c .before .before .before .before .before .before .before .before .before .before .before .arguments .kept .1 .0
 
--- src/lib.rt:201:1
 pub called-same-length-7 : (t : ℕ) → called-lts.Need-same-length-7 (scope-reads.Asked, scope-reads.Learnt, arguments-below t, arguments.Post, apply-below t, apply.Post) (called-at t) called.Post
 called-same-length-7 t c = c .before .before .before .before .before .before .before .before .before .before .before .arguments .kept .1 .1 .0
 
--- src/lib.rt:201:1
 pub called-same-length-8 : (t : ℕ) → called-lts.Need-same-length-8 (scope-reads.Asked, scope-reads.Learnt, arguments-below t, arguments.Post, apply-below t, apply.Post) (called-at t) called.Post
 called-same-length-8 t c = c .before .before .before .before .before .before .before .before .before .before .before .arguments .kept .1 .1 .1 .0
 
--- src/lib.rt:201:1
 pub called-returns-2 : (t : ℕ) → called-lts.Need-returns-2 (scope-reads.Asked, scope-reads.Learnt, arguments-below t, arguments.Post, apply-below t, apply.Post) (called-at t) called.Post
-called-returns-2 t c = called-fails _ _ _ _ _ _ _ _ (c .before .before .before .before .before .before .before .before .before .before .before .before .before .before .before .before .before .before .before .before .before .before .before .pre .1) _ _ (rw (c .before .x .given .1, c .before .before .before .before .before .before .before .before .before .before .before .before .before .before .before .before .scope .ensures) at (c .before .before .before .before .before .before .before .before .before .before .before .arguments .ensures))
+called-returns-2 t c =
+    let start = c .before .before .before .before .before .before .before .before .before .before .before .before .before .before .before .before .before .before .before .before .before .before .before in
+    let scope = c .before .before .before .before .before .before .before .before .before .before .before .before .before .before .before .before .scope in
+    let arguments′ = c .before .before .before .before .before .before .before .before .before .before .before .arguments in
+    called-fails _ _ _ _ _ _ _ _ (start .pre .1) _ _ (rw (c .before .x .given .1, scope .ensures) at (arguments′ .ensures))

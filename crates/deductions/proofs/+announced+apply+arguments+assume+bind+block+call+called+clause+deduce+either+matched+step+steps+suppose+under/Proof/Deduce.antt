@@ -9,44 +9,42 @@ use Rattle.deductions.proofs.+announced+apply+arguments+assume+bind+blo
 use Rattle.deductions.proofs.begin.Reads as begin-reads
 use Rattle.deductions.proofs.+announced+apply+arguments+assume+bind+block+call+called+clause+deduce+either+matched+step+steps+suppose+under.Proof.Falling.{deduce-at, step-below}
 
--- src/lib.rt:89:9
 pub deduce-returns : (t : ℕ) → deduce-lts.Need-returns (begin-reads.Asked, begin-reads.Learnt, step-below t, step.Post) (deduce-at t) deduce.Post
 deduce-returns t c = spent-out _ _ _ _ _ _ (c .if1 .taken)
 
--- src/lib.rt:92:9
 pub deduce-returns-2 : (t : ℕ) → deduce-lts.Need-returns-2 (begin-reads.Asked, begin-reads.Learnt, step-below t, step.Post) (deduce-at t) deduce.Post
 deduce-returns-2 t c = too-deep _ _ _ _ _ _ (c .before .before .if1 .left) (c .if2 .taken)
 
--- src/lib.rt:94:9
 pub deduce-begin-requires : (t : ℕ) → deduce-lts.Need-begin-requires (begin-reads.Asked, begin-reads.Learnt, step-below t, step.Post) (deduce-at t) deduce.Post
 deduce-begin-requires t c κs = search needs
 
--- src/lib.rt:98:16
 pub deduce-sub-t14 : (t : ℕ) → deduce-lts.Need-sub-t14 (begin-reads.Asked, begin-reads.Learnt, step-below t, step.Post) (deduce-at t) deduce.Post
 deduce-sub-t14 t c = search needs
 
--- src/lib.rt:100:5
 pub deduce-step-requires : (t : ℕ) → deduce-lts.Need-step-requires (begin-reads.Asked, begin-reads.Learnt, step-below t, step.Post) (deduce-at t) deduce.Post
 deduce-step-requires t c κs =
-    let pre = c .before .before .before .before .before .before .before .before .before .before .before .before .before .before .before .before .before .pre in
-    (omega (arith, pre .0, c .before .before .before .before .before .before .if2 .left), (rw (c .before .before .before .before .before .begin .ensures) (ready-spent _ _ _ _ _ (c .before .before .before .before .before .before .before .before .if1 .left) (pre .1 .0)), pre .1 .1))
+    let start = c .before .before .before .before .before .before .before .before .before .before .before .before .before .before .before .before .before in
+    let if1 = c .before .before .before .before .before .before .before .before .if1 in
+    let if2 = c .before .before .before .before .before .before .if2 in
+    let pre = start .pre in
+    (omega (arith, pre .0, if2 .left), (rw (c .before .before .before .before .before .begin .ensures) (ready-spent _ _ _ _ _ (if1 .left) (pre .1 .0)), pre .1 .1))
 
--- src/lib.rt:73:1
 pub deduce-same-length : (t : ℕ) → deduce-lts.Need-same-length (begin-reads.Asked, begin-reads.Learnt, step-below t, step.Post) (deduce-at t) deduce.Post
 deduce-same-length t c = c .before .before .before .before .before .before .before .before .step .kept .0
 
--- src/lib.rt:73:1
 pub deduce-same-length-2 : (t : ℕ) → deduce-lts.Need-same-length-2 (begin-reads.Asked, begin-reads.Learnt, step-below t, step.Post) (deduce-at t) deduce.Post
 deduce-same-length-2 t c = c .before .before .before .before .before .before .before .before .step .kept .1 .0
 
--- src/lib.rt:73:1
 pub deduce-same-length-3 : (t : ℕ) → deduce-lts.Need-same-length-3 (begin-reads.Asked, begin-reads.Learnt, step-below t, step.Post) (deduce-at t) deduce.Post
 deduce-same-length-3 t c = c .before .before .before .before .before .before .before .before .step .kept .1 .1 .0
 
--- src/lib.rt:73:1
 pub deduce-same-length-4 : (t : ℕ) → deduce-lts.Need-same-length-4 (begin-reads.Asked, begin-reads.Learnt, step-below t, step.Post) (deduce-at t) deduce.Post
 deduce-same-length-4 t c = c .before .before .before .before .before .before .before .before .step .kept .1 .1 .1 .0
 
--- src/lib.rt:73:1
 pub deduce-returns-3 : (t : ℕ) → deduce-lts.Need-returns-3 (begin-reads.Asked, begin-reads.Learnt, step-below t, step.Post) (deduce-at t) deduce.Post
-deduce-returns-3 t c = entered _ _ _ _ _ _ _ (c .before .before .before .before .before .before .before .before .before .before .before .before .before .before .before .before .before .if1 .left) (c .before .before .before .before .before .before .before .before .before .before .before .before .before .before .before .if2 .left) (rw (c .before .before .before .before .before .before .before .before .before .before .before .before .before .before .begin .ensures) at (c .before .before .before .before .before .before .before .before .step .ensures))
+deduce-returns-3 t c =
+    let if1 = c .before .before .before .before .before .before .before .before .before .before .before .before .before .before .before .before .before .if1 in
+    let if2 = c .before .before .before .before .before .before .before .before .before .before .before .before .before .before .before .if2 in
+    let begin = c .before .before .before .before .before .before .before .before .before .before .before .before .before .before .begin in
+    let step′ = c .before .before .before .before .before .before .before .before .step in
+    entered _ _ _ _ _ _ _ (if1 .left) (if2 .left) (rw (begin .ensures) at (step′ .ensures))

@@ -12,102 +12,126 @@ use Rattle.deductions.proofs.join.Reads as join-reads
 use Rattle.words.proofs.at.Reads as at-reads
 use Rattle.deductions.proofs.+announced+apply+arguments+assume+bind+block+call+called+clause+deduce+either+matched+step+steps+suppose+under.Proof.Falling.{deduce-below, either-below, steps-at, steps-below}
 
--- src/lib.rt:586:9
 pub steps-at-requires : (t : ℕ) → steps-lts.Need-at-requires (at-reads.Asked, at-reads.Learnt, deduce-below t, deduce.Post, either-below t, either.Post, join-reads.Asked, join-reads.Learnt, steps-below t, steps.Post) (steps-at t) steps.Post
 steps-at-requires t c κs = search needs
 
--- src/lib.rt:588:9
 pub steps-deduce-requires : (t : ℕ) → steps-lts.Need-deduce-requires (at-reads.Asked, at-reads.Learnt, deduce-below t, deduce.Post, either-below t, either.Post, join-reads.Asked, join-reads.Learnt, steps-below t, steps.Post) (steps-at t) steps.Post
-steps-deduce-requires t c κs = (omega (arith, c .before .before .before .before .before .before .before .before .before .before .before .before .pre .0), (last-ready _ _ _ _ _ _ _ (c .before .before .before .before .before .at .ensures) (c .before .before .before .before .before .before .before .before .before .before .before .before .pre .1), step-kind _ _ _ _ _ _ _ (c .before .before .before .before .before .at .ensures) (c .before .before .before .before .before .before .before .before .before .before .before .before .pre .1)))
+steps-deduce-requires t c κs =
+    let start = c .before .before .before .before .before .before .before .before .before .before .before .before in
+    let at1 = c .before .before .before .before .before .at in
+    (omega (arith, start .pre .0), (last-ready _ _ _ _ _ _ _ (at1 .ensures) (start .pre .1), step-kind _ _ _ _ _ _ _ (at1 .ensures) (start .pre .1)))
 
--- src/lib.rt:588:9
 pub steps-same-length : (t : ℕ) → steps-lts.Need-same-length (at-reads.Asked, at-reads.Learnt, deduce-below t, deduce.Post, either-below t, either.Post, join-reads.Asked, join-reads.Learnt, steps-below t, steps.Post) (steps-at t) steps.Post
 steps-same-length t c = c .before .before .before .before .before .before .before .before .deduce .kept .0
 
--- src/lib.rt:588:9
 pub steps-same-length-2 : (t : ℕ) → steps-lts.Need-same-length-2 (at-reads.Asked, at-reads.Learnt, deduce-below t, deduce.Post, either-below t, either.Post, join-reads.Asked, join-reads.Learnt, steps-below t, steps.Post) (steps-at t) steps.Post
 steps-same-length-2 t c = c .before .before .before .before .before .before .before .before .deduce .kept .1 .0
 
--- src/lib.rt:588:9
 pub steps-same-length-3 : (t : ℕ) → steps-lts.Need-same-length-3 (at-reads.Asked, at-reads.Learnt, deduce-below t, deduce.Post, either-below t, either.Post, join-reads.Asked, join-reads.Learnt, steps-below t, steps.Post) (steps-at t) steps.Post
 steps-same-length-3 t c = c .before .before .before .before .before .before .before .before .deduce .kept .1 .1 .0
 
--- src/lib.rt:588:9
 pub steps-same-length-4 : (t : ℕ) → steps-lts.Need-same-length-4 (at-reads.Asked, at-reads.Learnt, deduce-below t, deduce.Post, either-below t, either.Post, join-reads.Asked, join-reads.Learnt, steps-below t, steps.Post) (steps-at t) steps.Post
 steps-same-length-4 t c = c .before .before .before .before .before .before .before .before .deduce .kept .1 .1 .1 .0
 
--- src/lib.rt:588:9
 pub steps-returns : (t : ℕ) → steps-lts.Need-returns (at-reads.Asked, at-reads.Learnt, deduce-below t, deduce.Post, either-below t, either.Post, join-reads.Asked, join-reads.Learnt, steps-below t, steps.Post) (steps-at t) steps.Post
-steps-returns t c = last-step _ _ _ _ _ _ _ (c .before .before .before .before .before .before .before .before .before .before .before .before .before .before .at .ensures) _ _ (c .before .before .before .before .before .before .before .before .before .before .before .before .before .if1 .taken) (c .before .before .before .before .before .before .before .before .deduce .ensures)
+steps-returns t c =
+    let at1 = c .before .before .before .before .before .before .before .before .before .before .before .before .before .before .at in
+    let if1 = c .before .before .before .before .before .before .before .before .before .before .before .before .before .if1 in
+    let deduce′ = c .before .before .before .before .before .before .before .before .deduce in
+    last-step _ _ _ _ _ _ _ (at1 .ensures) _ _ (if1 .taken) (deduce′ .ensures)
 
--- src/lib.rt:590:11
 pub steps-either-requires : (t : ℕ) → steps-lts.Need-either-requires (at-reads.Asked, at-reads.Learnt, deduce-below t, deduce.Post, either-below t, either.Post, join-reads.Asked, join-reads.Learnt, steps-below t, steps.Post) (steps-at t) steps.Post
-steps-either-requires t c κs = (omega (arith, c .before .before .before .before .before .before .before .before .before .before .before .before .pre .0), step-ready _ _ _ _ _ _ _ (c .before .before .before .before .before .at .ensures) (c .before .before .before .before .before .before .before .before .before .before .before .before .pre .1))
+steps-either-requires t c κs =
+    let start = c .before .before .before .before .before .before .before .before .before .before .before .before in
+    (omega (arith, start .pre .0), step-ready _ _ _ _ _ _ _ (c .before .before .before .before .before .at .ensures) (start .pre .1))
 
--- src/lib.rt:591:22
 pub steps-enum-known-v : (t : ℕ) → steps-lts.Need-enum-known-v (at-reads.Asked, at-reads.Learnt, deduce-below t, deduce.Post, either-below t, either.Post, join-reads.Asked, join-reads.Learnt, steps-below t, steps.Post) (steps-at t) steps.Post
 steps-enum-known-v t c = search needs
 
--- src/lib.rt:593:23
 pub steps-join-requires : (t : ℕ) → steps-lts.Need-join-requires (at-reads.Asked, at-reads.Learnt, deduce-below t, deduce.Post, either-below t, either.Post, join-reads.Asked, join-reads.Learnt, steps-below t, steps.Post) (steps-at t) steps.Post
 steps-join-requires t c κs =
-    let r = (c .before .before .before .before .before .before .before .before .before .before .before .before .before .before .before .before .before .before .before .before .before .before .before .before .before .pre .1) .ready .room .base in
-    join-fits _ _ _ _ _ _ _ _ _ _ _ _ (omega (arith, r)) (held _ _ _ _ _ _ _ _ _ _ _ _ _ _ ((c .before .before .before .before .before .before .before .before .before .before .before .before .before .before .before .before .before .before .before .before .before .before .before .before .before .pre .1) .ready) (step-in _ _ _ _ _ _ _ (c .before .before .before .before .before .before .before .before .before .before .before .before .before .before .before .before .before .before .at .ensures) (c .before .before .before .before .before .before .before .before .before .before .before .before .before .before .before .before .before .before .before .before .before .before .before .before .before .pre .1)) (rw (c .before .before .v .given .1) at (c .before .before .before .before .before .before .before .before .before .before .before .before .either .ensures)))
+    let start = c .before .before .before .before .before .before .before .before .before .before .before .before .before .before .before .before .before .before .before .before .before .before .before .before .before in
+    let at1 = c .before .before .before .before .before .before .before .before .before .before .before .before .before .before .before .before .before .before .at in
+    let either′ = c .before .before .before .before .before .before .before .before .before .before .before .before .either in
+    let r = (start .pre .1) .ready .room .base in
+    join-fits _ _ _ _ _ _ _ _ _ _ _ _ (omega (arith, r)) (held _ _ _ _ _ _ _ _ _ _ _ _ _ _ ((start .pre .1) .ready) (step-in _ _ _ _ _ _ _ (at1 .ensures) (start .pre .1)) (rw (c .before .before .v .given .1) at (either′ .ensures)))
 
--- src/lib.rt:606:17
 pub steps-add-steps : (t : ℕ) → steps-lts.Need-add-steps (at-reads.Asked, at-reads.Learnt, deduce-below t, deduce.Post, either-below t, either.Post, join-reads.Asked, join-reads.Learnt, steps-below t, steps.Post) (steps-at t) steps.Post
-steps-add-steps t c = let i = (c .before .before .before .before .before .before .before .before .before .before .before .before .before .before .before .before .before .before .before .before .before .before .before .before .before .before .before .before .before .before .before .before .pre .1) .inside in let w = (c .before .before .before .before .before .before .before .before .before .before .before .before .before .before .before .before .before .before .before .before .before .before .before .before .before .before .before .before .before .before .before .before .pre .1) .ready .setting .world .short in let o = (c .before .before .before .before .before .before .before .before .before .before .before .before .before .before .before .before .before .before .before .before .before .before .before .before .before .before .before .before .before .before .before .before .pre .1) .some in omega (arith, i, w, o)
+steps-add-steps t c =
+    let start = c .before .before .before .before .before .before .before .before .before .before .before .before .before .before .before .before .before .before .before .before .before .before .before .before .before .before .before .before .before .before .before .before in
+    let i = (start .pre .1) .inside in let w = (start .pre .1) .ready .setting .world .short in let o = (start .pre .1) .some in omega (arith, i, w, o)
 
--- src/lib.rt:607:17
 pub steps-sub-steps : (t : ℕ) → steps-lts.Need-sub-steps (at-reads.Asked, at-reads.Learnt, deduce-below t, deduce.Post, either-below t, either.Post, join-reads.Asked, join-reads.Learnt, steps-below t, steps.Post) (steps-at t) steps.Post
-steps-sub-steps t c = let o = (c .before .before .before .before .before .before .before .before .before .before .before .before .before .before .before .before .before .before .before .before .before .before .before .before .before .before .before .before .before .before .before .before .pre .1) .some in omega (arith, o)
+steps-sub-steps t c =
+    let start = c .before .before .before .before .before .before .before .before .before .before .before .before .before .before .before .before .before .before .before .before .before .before .before .before .before .before .before .before .before .before .before .before in
+    let o = (start .pre .1) .some in omega (arith, o)
 
--- src/lib.rt:597:13
 pub steps-steps-requires : (t : ℕ) → steps-lts.Need-steps-requires (at-reads.Asked, at-reads.Learnt, deduce-below t, deduce.Post, either-below t, either.Post, join-reads.Asked, join-reads.Learnt, steps-below t, steps.Post) (steps-at t) steps.Post
 steps-steps-requires t c κs =
-    let o = (c .before .before .before .before .before .before .before .before .before .before .before .before .before .before .before .before .before .before .before .before .before .before .before .before .before .before .before .before .before .before .before .before .pre .1) .some in
-    (omega (arith, c .before .before .before .before .before .before .before .before .before .before .before .before .before .before .before .before .before .before .before .before .before .before .before .before .before .before .before .before .before .before .before .before .pre .0, o), rw (c .before .before .before .before .before .before .join .ensures .0, c .before .before .before .before .before .before .join .ensures .1) (steps-ready _ _ _ _ _ _ _ (c .before .before .before .before .before .before .before .before .before .before .before .before .before .before .before .before .before .before .before .before .before .before .before .before .before .at .ensures) _ _ _ _ (c .before .before .before .before .before .before .before .before .before .before .before .before .before .before .before .before .before .before .before .before .before .before .before .before .before .before .before .before .before .before .before .before .pre .1) (c .before .before .before .before .before .before .before .before .before .before .before .before .before .before .before .before .before .before .before .before .before .before .before .before .if1 .left) (rw (c .before .before .before .before .before .before .before .before .before .v .given .1) at (c .before .before .before .before .before .before .before .before .before .before .before .before .before .before .before .before .before .before .before .either .ensures))))
+    let start = c .before .before .before .before .before .before .before .before .before .before .before .before .before .before .before .before .before .before .before .before .before .before .before .before .before .before .before .before .before .before .before .before in
+    let at1 = c .before .before .before .before .before .before .before .before .before .before .before .before .before .before .before .before .before .before .before .before .before .before .before .before .before .at in
+    let if1 = c .before .before .before .before .before .before .before .before .before .before .before .before .before .before .before .before .before .before .before .before .before .before .before .before .if1 in
+    let either′ = c .before .before .before .before .before .before .before .before .before .before .before .before .before .before .before .before .before .before .before .either in
+    let v = c .before .before .before .before .before .before .before .before .before .v in
+    let join = c .before .before .before .before .before .before .join in
+    let o = (start .pre .1) .some in
+    (omega (arith, start .pre .0, o), rw (join .ensures .0, join .ensures .1) (steps-ready _ _ _ _ _ _ _ (at1 .ensures) _ _ _ _ (start .pre .1) (if1 .left) (rw (v .given .1) at (either′ .ensures))))
 
--- src/lib.rt:610:26
 pub steps-enum-known-x : (t : ℕ) → steps-lts.Need-enum-known-x (at-reads.Asked, at-reads.Learnt, deduce-below t, deduce.Post, either-below t, either.Post, join-reads.Asked, join-reads.Learnt, steps-below t, steps.Post) (steps-at t) steps.Post
 steps-enum-known-x t c = search needs
 
--- src/lib.rt:571:1
 pub steps-same-length-5 : (t : ℕ) → steps-lts.Need-same-length-5 (at-reads.Asked, at-reads.Learnt, deduce-below t, deduce.Post, either-below t, either.Post, join-reads.Asked, join-reads.Learnt, steps-below t, steps.Post) (steps-at t) steps.Post
-steps-same-length-5 t c = c .before .before .before .before .before .before .before .before .steps .kept .0 ∙ c .before .before .before .before .before .before .before .before .before .before .before .before .before .before .before .before .before .before .before .before .before .before .before .before .before .before .before .before .either .kept .0
+steps-same-length-5 t c =
+    let either′ = c .before .before .before .before .before .before .before .before .before .before .before .before .before .before .before .before .before .before .before .before .before .before .before .before .before .before .before .before .either in
+    let steps′ = c .before .before .before .before .before .before .before .before .steps in
+    steps′ .kept .0 ∙ either′ .kept .0
 
--- src/lib.rt:571:1
 pub steps-same-length-6 : (t : ℕ) → steps-lts.Need-same-length-6 (at-reads.Asked, at-reads.Learnt, deduce-below t, deduce.Post, either-below t, either.Post, join-reads.Asked, join-reads.Learnt, steps-below t, steps.Post) (steps-at t) steps.Post
-steps-same-length-6 t c = c .before .before .before .before .before .before .before .before .steps .kept .1 .0 ∙ c .before .before .before .before .before .before .before .before .before .before .before .before .before .before .before .before .before .before .before .before .before .before .before .before .before .before .before .before .either .kept .1 .0
+steps-same-length-6 t c =
+    let either′ = c .before .before .before .before .before .before .before .before .before .before .before .before .before .before .before .before .before .before .before .before .before .before .before .before .before .before .before .before .either in
+    let steps′ = c .before .before .before .before .before .before .before .before .steps in
+    steps′ .kept .1 .0 ∙ either′ .kept .1 .0
 
--- src/lib.rt:571:1
 pub steps-same-length-7 : (t : ℕ) → steps-lts.Need-same-length-7 (at-reads.Asked, at-reads.Learnt, deduce-below t, deduce.Post, either-below t, either.Post, join-reads.Asked, join-reads.Learnt, steps-below t, steps.Post) (steps-at t) steps.Post
-steps-same-length-7 t c = c .before .before .before .before .before .before .before .before .steps .kept .1 .1 .0 ∙ c .before .before .before .before .before .before .before .before .before .before .before .before .before .before .before .join .kept .0 ∙ c .before .before .before .before .before .before .before .before .before .before .before .before .before .before .before .before .before .before .before .before .before .before .before .before .before .before .before .before .either .kept .1 .1 .0
+steps-same-length-7 t c =
+    let either′ = c .before .before .before .before .before .before .before .before .before .before .before .before .before .before .before .before .before .before .before .before .before .before .before .before .before .before .before .before .either in
+    let join = c .before .before .before .before .before .before .before .before .before .before .before .before .before .before .before .join in
+    let steps′ = c .before .before .before .before .before .before .before .before .steps in
+    steps′ .kept .1 .1 .0 ∙ join .kept .0 ∙ either′ .kept .1 .1 .0
 
--- src/lib.rt:571:1
 pub steps-same-length-8 : (t : ℕ) → steps-lts.Need-same-length-8 (at-reads.Asked, at-reads.Learnt, deduce-below t, deduce.Post, either-below t, either.Post, join-reads.Asked, join-reads.Learnt, steps-below t, steps.Post) (steps-at t) steps.Post
-steps-same-length-8 t c = c .before .before .before .before .before .before .before .before .steps .kept .1 .1 .1 .0 ∙ c .before .before .before .before .before .before .before .before .before .before .before .before .before .before .before .before .before .before .before .before .before .before .before .before .before .before .before .before .either .kept .1 .1 .1 .0
+steps-same-length-8 t c =
+    let either′ = c .before .before .before .before .before .before .before .before .before .before .before .before .before .before .before .before .before .before .before .before .before .before .before .before .before .before .before .before .either in
+    let steps′ = c .before .before .before .before .before .before .before .before .steps in
+    steps′ .kept .1 .1 .1 .0 ∙ either′ .kept .1 .1 .1 .0
 
--- src/lib.rt:571:1
 pub steps-returns-2 : (t : ℕ) → steps-lts.Need-returns-2 (at-reads.Asked, at-reads.Learnt, deduce-below t, deduce.Post, either-below t, either.Post, join-reads.Asked, join-reads.Learnt, steps-below t, steps.Post) (steps-at t) steps.Post
-steps-returns-2 t c = step-then _ _ _ _ _ _ _ (c .before .before .before .before .before .before .before .before .before .before .before .before .before .before .before .before .before .before .before .before .before .before .before .before .before .before .before .before .before .before .before .before .before .before .at .ensures) _ _ _ _ _ (c .before .before .before .before .before .before .before .before .before .before .before .before .before .before .before .before .before .before .before .before .before .before .before .before .before .before .before .before .before .before .before .before .before .before .before .before .before .before .before .before .before .pre .1) (c .before .before .before .before .before .before .before .before .before .before .before .before .before .before .before .before .before .before .before .before .before .before .before .before .before .before .before .before .before .before .before .before .before .if1 .left) (rw (c .before .before .before .before .before .before .before .before .before .before .before .before .before .before .before .before .before .before .v .given .1) at (c .before .before .before .before .before .before .before .before .before .before .before .before .before .before .before .before .before .before .before .before .before .before .before .before .before .before .before .before .either .ensures)) (rw (c .before .before .before .before .before .before .before .before .before .before .before .before .before .before .before .join .ensures .0, c .before .before .before .before .before .before .before .before .before .before .before .before .before .before .before .join .ensures .1) at (c .before .before .before .before .before .before .before .before .steps .ensures))
+steps-returns-2 t c =
+    let start = c .before .before .before .before .before .before .before .before .before .before .before .before .before .before .before .before .before .before .before .before .before .before .before .before .before .before .before .before .before .before .before .before .before .before .before .before .before .before .before .before .before in
+    let at1 = c .before .before .before .before .before .before .before .before .before .before .before .before .before .before .before .before .before .before .before .before .before .before .before .before .before .before .before .before .before .before .before .before .before .before .at in
+    let if1 = c .before .before .before .before .before .before .before .before .before .before .before .before .before .before .before .before .before .before .before .before .before .before .before .before .before .before .before .before .before .before .before .before .before .if1 in
+    let either′ = c .before .before .before .before .before .before .before .before .before .before .before .before .before .before .before .before .before .before .before .before .before .before .before .before .before .before .before .before .either in
+    let v = c .before .before .before .before .before .before .before .before .before .before .before .before .before .before .before .before .before .before .v in
+    let join = c .before .before .before .before .before .before .before .before .before .before .before .before .before .before .before .join in
+    let steps′ = c .before .before .before .before .before .before .before .before .steps in
+    step-then _ _ _ _ _ _ _ (at1 .ensures) _ _ _ _ _ (start .pre .1) (if1 .left) (rw (v .given .1) at (either′ .ensures)) (rw (join .ensures .0, join .ensures .1) at (steps′ .ensures))
 
--- src/lib.rt:571:1
 pub steps-same-length-9 : (t : ℕ) → steps-lts.Need-same-length-9 (at-reads.Asked, at-reads.Learnt, deduce-below t, deduce.Post, either-below t, either.Post, join-reads.Asked, join-reads.Learnt, steps-below t, steps.Post) (steps-at t) steps.Post
 steps-same-length-9 t c = c .before .before .before .before .before .before .before .before .before .before .before .either .kept .0
 
--- src/lib.rt:571:1
 pub steps-same-length-10 : (t : ℕ) → steps-lts.Need-same-length-10 (at-reads.Asked, at-reads.Learnt, deduce-below t, deduce.Post, either-below t, either.Post, join-reads.Asked, join-reads.Learnt, steps-below t, steps.Post) (steps-at t) steps.Post
 steps-same-length-10 t c = c .before .before .before .before .before .before .before .before .before .before .before .either .kept .1 .0
 
--- src/lib.rt:571:1
 pub steps-same-length-11 : (t : ℕ) → steps-lts.Need-same-length-11 (at-reads.Asked, at-reads.Learnt, deduce-below t, deduce.Post, either-below t, either.Post, join-reads.Asked, join-reads.Learnt, steps-below t, steps.Post) (steps-at t) steps.Post
 steps-same-length-11 t c = c .before .before .before .before .before .before .before .before .before .before .before .either .kept .1 .1 .0
 
--- src/lib.rt:571:1
 pub steps-same-length-12 : (t : ℕ) → steps-lts.Need-same-length-12 (at-reads.Asked, at-reads.Learnt, deduce-below t, deduce.Post, either-below t, either.Post, join-reads.Asked, join-reads.Learnt, steps-below t, steps.Post) (steps-at t) steps.Post
 steps-same-length-12 t c = c .before .before .before .before .before .before .before .before .before .before .before .either .kept .1 .1 .1 .0
 
--- src/lib.rt:571:1
 pub steps-returns-3 : (t : ℕ) → steps-lts.Need-returns-3 (at-reads.Asked, at-reads.Learnt, deduce-below t, deduce.Post, either-below t, either.Post, join-reads.Asked, join-reads.Learnt, steps-below t, steps.Post) (steps-at t) steps.Post
-steps-returns-3 t c = step-fails _ _ _ _ _ _ _ (c .before .before .before .before .before .before .before .before .before .before .before .before .before .before .before .before .before .at .ensures) _ _ _ (c .before .before .before .before .before .before .before .before .before .before .before .before .before .before .before .before .before .before .before .before .before .before .before .before .pre .1) (c .before .before .before .before .before .before .before .before .before .before .before .before .before .before .before .before .if1 .left) (rw (c .before .x .given .1) at (c .before .before .before .before .before .before .before .before .before .before .before .either .ensures))
+steps-returns-3 t c =
+    let start = c .before .before .before .before .before .before .before .before .before .before .before .before .before .before .before .before .before .before .before .before .before .before .before .before in
+    let at1 = c .before .before .before .before .before .before .before .before .before .before .before .before .before .before .before .before .before .at in
+    let if1 = c .before .before .before .before .before .before .before .before .before .before .before .before .before .before .before .before .if1 in
+    let either′ = c .before .before .before .before .before .before .before .before .before .before .before .either in
+    step-fails _ _ _ _ _ _ _ (at1 .ensures) _ _ _ (start .pre .1) (if1 .left) (rw (c .before .x .given .1) at (either′ .ensures))

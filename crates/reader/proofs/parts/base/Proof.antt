@@ -22,7 +22,9 @@ enum-known-count : tie.Need-enum-known-count
 enum-known-count c = search needs
 
 members-requires : tie.Need-members-requires
-members-requires c κs = let h = from-got _ _ _ _ 0 64 (gotten-got _ _ _ (c .before .before .count .given .1) (c .before .before .before .before .read-from .ensures)) .to-top in let l = c .before .before .before .before .before .before .before .before .pre .1 in (c .before .before .before .before .before .before .before .before .pre .0, omega arith)
+members-requires c κs =
+    let start = c .before .before .before .before .before .before .before .before in
+    let h = from-got _ _ _ _ 0 64 (gotten-got _ _ _ (c .before .before .count .given .1) (c .before .before .before .before .read-from .ensures)) .to-top in let l = start .pre .1 in (start .pre .0, omega arith)
 
 returns : tie.Need-returns
 unfolding partFour

@@ -46,7 +46,12 @@ loop-less : tie.Need-loop-less Inv-loop μ-loop
 loop-less c = search needs
 
 loop-again : tie.Need-loop-again Inv-loop μ-loop
-loop-again c = in-more _ _ _ _ _ _ _ (c .before .before .before .before .before .before .before .before .before .loop .inv) _ _ _ (c .before .before .before .before .before .before .before .before .before .before .before .before .before .pre .1) (c .before .before .before .before .before .before .before .before .loop-test .taken) (gotten-got _ _ _ (c .before .before .before .before .before .v .given .1) (c .before .before .before .before .before .before .before .name-ref .ensures .0)) (c .before .before .put .ensures)
+loop-again c =
+    let start = c .before .before .before .before .before .before .before .before .before .before .before .before .before in
+    let loop = c .before .before .before .before .before .before .before .before .before .loop in
+    let loop-test = c .before .before .before .before .before .before .before .before .loop-test in
+    let name-ref = c .before .before .before .before .before .before .before .name-ref in
+    in-more _ _ _ _ _ _ _ (loop .inv) _ _ _ (start .pre .1) (loop-test .taken) (gotten-got _ _ _ (c .before .before .before .before .before .v .given .1) (name-ref .ensures .0)) (c .before .before .put .ensures)
 
 same-length-2 : tie.Need-same-length-2 Inv-loop μ-loop
 same-length-2 c = search needs

@@ -29,7 +29,11 @@ same-length : tie.Need-same-length Inv-loop μ-loop
 same-length c = search needs
 
 returns : tie.Need-returns Inv-loop μ-loop
-returns c = at-refused _ _ _ _ _ _ _ _ _ (c .before .before .before .before .before .before .before .before .loop .inv) _ _ (c .before .before .before .before .before .before .before .loop-test .taken) (c .before .before .before .before .before .read-phrase .ensures) _ _ (c .before .before .before .before .before .before .before .before .before .before .before .before .pre .2) (c .before .why .given .1)
+returns c =
+    let start = c .before .before .before .before .before .before .before .before .before .before .before .before in
+    let loop = c .before .before .before .before .before .before .before .before .loop in
+    let loop-test = c .before .before .before .before .before .before .before .loop-test in
+    at-refused _ _ _ _ _ _ _ _ _ (loop .inv) _ _ (loop-test .taken) (c .before .before .before .before .before .read-phrase .ensures) _ _ (start .pre .2) (c .before .why .given .1)
 
 enum-known-next : tie.Need-enum-known-next Inv-loop μ-loop
 enum-known-next c = search needs
@@ -41,7 +45,10 @@ loop-less : tie.Need-loop-less Inv-loop μ-loop
 loop-less c = search needs
 
 loop-again : tie.Need-loop-again Inv-loop μ-loop
-loop-again c = at-more _ _ _ _ _ _ _ _ _ (c .before .before .before .before .before .before .before .before .loop .inv) _ _ (c .before .before .before .before .before .before .before .loop-test .taken) (c .before .before .before .before .before .read-phrase .ensures) _ (search needs) (c .before .next .given .1)
+loop-again c =
+    let loop = c .before .before .before .before .before .before .before .before .loop in
+    let loop-test = c .before .before .before .before .before .before .before .loop-test in
+    at-more _ _ _ _ _ _ _ _ _ (loop .inv) _ _ (loop-test .taken) (c .before .before .before .before .before .read-phrase .ensures) _ (search needs) (c .before .next .given .1)
 
 same-length-2 : tie.Need-same-length-2 Inv-loop μ-loop
 same-length-2 c = search needs

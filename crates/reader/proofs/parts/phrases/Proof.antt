@@ -21,7 +21,9 @@ enum-known-count : tie.Need-enum-known-count
 enum-known-count c = search needs
 
 phrase-rows-requires : tie.Need-phrase-rows-requires
-phrase-rows-requires c κs = (c .before .before .before .before .before .before .before .before .pre .0, c .before .before .before .before .before .before .before .before .pre .1, from-got _ _ _ _ 1 512 (gotten-got _ _ _ (c .before .before .count .given .1) (c .before .before .before .before .read-from .ensures)) .to-top, c .before .before .before .before .before .before .before .before .pre .2)
+phrase-rows-requires c κs =
+    let start = c .before .before .before .before .before .before .before .before in
+    (start .pre .0, start .pre .1, from-got _ _ _ _ 1 512 (gotten-got _ _ _ (c .before .before .count .given .1) (c .before .before .before .before .read-from .ensures)) .to-top, start .pre .2)
 
 returns : tie.Need-returns
 unfolding partThree

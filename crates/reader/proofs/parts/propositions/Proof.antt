@@ -23,13 +23,19 @@ enum-known-count : tie.Need-enum-known-count
 enum-known-count c = search needs
 
 read-propositions-requires : tie.Need-read-propositions-requires
-read-propositions-requires c κs = part-room _ _ (c .before .before .before .before .before .before .before .before .before .before .before .before .before .args .forms .now) _ (c .before .before .before .before .before .before .before .before .before .before .before .before .before .pre .1) (c .before .before .before .before .before .before .before .before .start .ensures .1) _ _ _ (c .before .before .before .before .before .before .before .before .start .ensures .0) (gotten-got _ _ _ (c .before .before .before .count .given .1) (c .before .before .before .before .before .read-from .ensures)) (c .before .before .before .before .before .before .before .before .before .before .before .before .before .pre .0) (c .before .before .before .before .before .before .before .before .before .before .before .before .before .pre .2)
+read-propositions-requires c κs =
+    let entry = c .before .before .before .before .before .before .before .before .before .before .before .before .before in
+    let start = c .before .before .before .before .before .before .before .before .start in
+    part-room _ _ (entry .args .forms .now) _ (entry .pre .1) (start .ensures .1) _ _ _ (start .ensures .0) (gotten-got _ _ _ (c .before .before .before .count .given .1) (c .before .before .before .before .before .read-from .ensures)) (entry .pre .0) (entry .pre .2)
 
 same-length : tie.Need-same-length
 same-length c = search needs
 
 returns : tie.Need-returns
-returns c = part-refused _ _ _ _ (c .before .before .before .before .before .before .before .before .before .before .before .pre .1) (c .before .before .before .before .before .before .start .ensures .1) _ _ _ (c .before .before .before .before .before .before .start .ensures .0) (gotten-no _ _ _ (c .before .why .given .1) (c .before .before .before .read-from .ensures))
+returns c =
+    let entry = c .before .before .before .before .before .before .before .before .before .before .before in
+    let start = c .before .before .before .before .before .before .start in
+    part-refused _ _ _ _ (entry .pre .1) (start .ensures .1) _ _ _ (start .ensures .0) (gotten-no _ _ _ (c .before .why .given .1) (c .before .before .before .read-from .ensures))
 
 same-length-2 : tie.Need-same-length-2
 same-length-2 c = search needs
@@ -38,7 +44,12 @@ same-length-3 : tie.Need-same-length-3
 same-length-3 c = search needs
 
 returns-2 : tie.Need-returns-2
-returns-2 c = part-read _ _ _ _ (c .before .before .before .before .before .before .before .before .before .before .before .before .before .before .before .before .before .before .pre .1) (c .before .before .before .before .before .before .before .before .before .before .before .before .before .start .ensures .1) _ _ _ _ _ _ (c .before .before .before .before .before .before .before .before .before .before .before .before .before .start .ensures .0) (gotten-got _ _ _ (c .before .before .before .before .before .before .before .before .count .given .1) (c .before .before .before .before .before .before .before .before .before .before .read-from .ensures)) (c .before .before .before .before .read-propositions .ensures)
+returns-2 c =
+    let entry = c .before .before .before .before .before .before .before .before .before .before .before .before .before .before .before .before .before .before in
+    let start = c .before .before .before .before .before .before .before .before .before .before .before .before .before .start in
+    let read-from = c .before .before .before .before .before .before .before .before .before .before .read-from in
+    let count = c .before .before .before .before .before .before .before .before .count in
+    part-read _ _ _ _ (entry .pre .1) (start .ensures .1) _ _ _ _ _ _ (start .ensures .0) (gotten-got _ _ _ (count .given .1) (read-from .ensures)) (c .before .before .before .before .read-propositions .ensures)
 
 pub propositions-spec : {M : Type 1} → statement M
 propositions-spec =

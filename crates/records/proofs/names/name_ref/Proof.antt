@@ -25,7 +25,9 @@ returns : tie.Need-returns
 returns c = (sym (name-refused _ _ _ _ _ _ (c .before .before .before .before .before .before .pre) (gotten-no _ _ _ (c .before .why .given .1) (c .before .before .before .read-below .ensures))), tt)
 
 returns-2 : tie.Need-returns-2
-returns-2 c = (rw (c .cell .ensures .0) (sym (name-read _ _ _ _ _ _ (c .before .before .before .before .before .before .before .pre) (gotten-got _ _ _ (c .before .before .p .given .1) (c .before .before .before .before .read-below .ensures)))), c .cell .ensures .1)
+returns-2 c =
+    let start = c .before .before .before .before .before .before .before in
+    (rw (c .cell .ensures .0) (sym (name-read _ _ _ _ _ _ (start .pre) (gotten-got _ _ _ (c .before .before .p .given .1) (c .before .before .before .before .read-below .ensures)))), c .cell .ensures .1)
 
 pub name-ref-spec : {M : Type 1} → statement M
 name-ref-spec =

@@ -33,7 +33,10 @@ add-parts : tie.Need-add-parts
 add-parts c = search needs
 
 small-requires : tie.Need-small-requires
-small-requires c κs = let h = below-got _ _ _ _ _ (gotten-got _ _ _ (c .before .before .before .before .p .given .1) (c .before .before .before .before .before .before .read-below .ensures)) .low in let l = c .before .before .before .before .before .before .before .before .before .before .pre .1 in (c .before .before .before .before .before .before .before .before .before .before .pre .0, (omega arith, omega arith, omega arith))
+small-requires c κs =
+    let start = c .before .before .before .before .before .before .before .before .before .before in
+    let read-below = c .before .before .before .before .before .before .read-below in
+    let h = below-got _ _ _ _ _ (gotten-got _ _ _ (c .before .before .before .before .p .given .1) (read-below .ensures)) .low in let l = start .pre .1 in (start .pre .0, (omega arith, omega arith, omega arith))
 
 returns : tie.Need-returns
 unfolding negationRow then
@@ -44,7 +47,10 @@ same-length c = search needs
 
 returns-2 : tie.Need-returns-2
 unfolding negationRow then
-returns-2 c = rw (rows-long, gotten-got _ _ _ (c .before .before .before .before .before .before .before .p .given .1) (c .before .before .before .before .before .before .before .before .before .read-below .ensures), ← c .before .before .before .before .before .cell .ensures .0, ← c .before .before .before .before .cell2 .ensures .0) (c .before .before .small .ensures)
+returns-2 c =
+    let read-below = c .before .before .before .before .before .before .before .before .before .read-below in
+    let p = c .before .before .before .before .before .before .before .p in
+    rw (rows-long, gotten-got _ _ _ (p .given .1) (read-below .ensures), ← c .before .before .before .before .before .cell .ensures .0, ← c .before .before .before .before .cell2 .ensures .0) (c .before .before .small .ensures)
 
 pub negation-spec : {M : Type 1} → statement M
 negation-spec =

@@ -50,7 +50,10 @@ same-length-4 : tie.Need-same-length-4
 same-length-4 c = search needs
 
 returns-4 : tie.Need-returns-4
-returns-4 c = rw (pattern-junction _ _ _ _ _ _ _ (c .before .before .before .before .before .before .before .if1 .left) (c .before .before .before .before .before .before .if2 .left) (c .before .before .before .before .before .if3 .left) (c .before .before .before .before .if4 .taken)) (c .before .before .junction .ensures)
+returns-4 c =
+    let if1 = c .before .before .before .before .before .before .before .if1 in
+    let if2 = c .before .before .before .before .before .before .if2 in
+    rw (pattern-junction _ _ _ _ _ _ _ (if1 .left) (if2 .left) (c .before .before .before .before .before .if3 .left) (c .before .before .before .before .if4 .taken)) (c .before .before .junction .ensures)
 
 returns-5 : tie.Need-returns-5
 returns-5 c = sym (pattern-none _ _ _ _ _ _ _ (c .if4 .left))

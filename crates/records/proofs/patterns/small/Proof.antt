@@ -37,7 +37,15 @@ same-length c = search needs
 
 returns-3 : tie.Need-returns-3
 unfolding smallRow check
-returns-3 c = simp (le-leb _ _ (c .before .before .before .before .before .before .before .before .before .before .before .before .before .before .before .before .before .before .before .before .before .before .if1 .left), le-leb _ _ (c .before .before .before .before .before .before .before .before .before .before .before .before .before .before .before .before .before .before .before .before .if2 .left), c .before .before .put5 .ensures, c .before .before .before .before .before .before .put4 .ensures, c .before .before .before .before .before .before .before .before .before .before .put3 .ensures, c .before .before .before .before .before .before .before .before .before .before .before .before .before .before .put2 .ensures, c .before .before .before .before .before .before .before .before .before .before .before .before .before .before .before .before .before .before .put .ensures, c .before .before .before .before .before .before .before .before .before .before .before .before .before .before .before .before .before .before .before .before .before .before .before .before .before .pre .0)
+returns-3 c =
+    let start = c .before .before .before .before .before .before .before .before .before .before .before .before .before .before .before .before .before .before .before .before .before .before .before .before .before in
+    let if1 = c .before .before .before .before .before .before .before .before .before .before .before .before .before .before .before .before .before .before .before .before .before .before .if1 in
+    let if2 = c .before .before .before .before .before .before .before .before .before .before .before .before .before .before .before .before .before .before .before .before .if2 in
+    let put = c .before .before .before .before .before .before .before .before .before .before .before .before .before .before .before .before .before .before .put in
+    let put2 = c .before .before .before .before .before .before .before .before .before .before .before .before .before .before .put2 in
+    let put3 = c .before .before .before .before .before .before .before .before .before .before .put3 in
+    let put4 = c .before .before .before .before .before .before .put4 in
+    simp (le-leb _ _ (if1 .left), le-leb _ _ (if2 .left), c .before .before .put5 .ensures, put4 .ensures, put3 .ensures, put2 .ensures, put .ensures, start .pre .0)
 
 pub small-spec : {M : Type 1} → statement M
 small-spec =

@@ -29,7 +29,10 @@ enum-known-q : tie.Need-enum-known-q
 enum-known-q c = search needs
 
 word-requires : tie.Need-word-requires
-word-requires c κs = let low = c .before .before .before .before .before .before .before .before .before .before .pre .0 .low in (c .before .before .before .before .before .before .before .before .before .before .pre .1, name-low _ _ _ _ _ low (gotten-got _ _ _ (c .before .before .before .before .before .p .given .1) (c .before .before .before .before .before .before .before .name-ref .ensures .0)), name-low _ _ _ _ _ low (gotten-got _ _ _ (c .before .q .given .1) (c .before .before .before .name-ref2 .ensures .0)))
+word-requires c κs =
+    let start = c .before .before .before .before .before .before .before .before .before .before in
+    let name-ref = c .before .before .before .before .before .before .before .name-ref in
+    let low = start .pre .0 .low in (start .pre .1, name-low _ _ _ _ _ low (gotten-got _ _ _ (c .before .before .before .before .before .p .given .1) (name-ref .ensures .0)), name-low _ _ _ _ _ low (gotten-got _ _ _ (c .before .q .given .1) (c .before .before .before .name-ref2 .ensures .0)))
 
 returns : tie.Need-returns
 unfolding junctionWord then
@@ -37,11 +40,16 @@ returns c = (rw (gotten-no _ _ _ (c .before .why .given .1) (c .before .before .
 
 returns-2 : tie.Need-returns-2
 unfolding junctionWord then
-returns-2 c = (rw (gotten-got _ _ _ (c .before .before .before .before .before .p .given .1) (c .before .before .before .before .before .before .before .name-ref .ensures .0), gotten-no _ _ _ (c .before .why2 .given .1) (c .before .before .before .name-ref2 .ensures .0)), tt)
+returns-2 c =
+    let name-ref = c .before .before .before .before .before .before .before .name-ref in
+    (rw (gotten-got _ _ _ (c .before .before .before .before .before .p .given .1) (name-ref .ensures .0), gotten-no _ _ _ (c .before .why2 .given .1) (c .before .before .before .name-ref2 .ensures .0)), tt)
 
 returns-3 : tie.Need-returns-3
 unfolding junctionWord then
-returns-3 c = (rw (gotten-got _ _ _ (c .before .before .before .before .before .before .p .given .1) (c .before .before .before .before .before .before .before .before .name-ref .ensures .0), gotten-got _ _ _ (c .before .before .q .given .1) (c .before .before .before .before .name-ref2 .ensures .0), c .word .ensures .0), c .word .ensures .1)
+returns-3 c =
+    let name-ref = c .before .before .before .before .before .before .before .before .name-ref in
+    let p = c .before .before .before .before .before .before .p in
+    (rw (gotten-got _ _ _ (p .given .1) (name-ref .ensures .0), gotten-got _ _ _ (c .before .before .q .given .1) (c .before .before .before .before .name-ref2 .ensures .0), c .word .ensures .0), c .word .ensures .1)
 
 pub junction-spec : {M : Type 1} → statement M
 junction-spec =

@@ -1,5 +1,4 @@
 -- `decimals::digit` meets its contract: the test picks the case of the definition.
-use mathlib.Core.Bool.{true}
 use Rattle.wording.proofs.Decoding.{digit-fits, digit-large}
 use borrow.Author.Needs.{needs}
 use Rattle.wording.proofs.decimals.digit.Statement.{statement}

@@ -1,8 +1,6 @@
 -- `decimals::is_white` meets its contract: at each return the tests that led there say whether it is.
 use borrow.Author.Tests.{eq-eqb, ne-eqb}
-use mathlib.Core.Path.{refl}
 use Rattle.wording.specs.Decimals.{white}
-use borrow.Author.Needs.{needs}
 use Rattle.wording.proofs.decimals.is_white.Statement.{statement}
 use Rattle.wording.proofs.decimals.is_white.Tie as tie
 use Rattle.wording.proofs.decimals.is_white.Reads as reads

@@ -1,6 +1,5 @@
 -- `decimals::other` meets its contract: the tests pick the case of the definition.
 use borrow.Author.Tests.{le-leb, lt-leb}
-use mathlib.Core.Path.{refl}
 use Rattle.wording.specs.Page.{pick}
 use Rattle.wording.specs.Decimals.{other as Decimals·other, stepOf}
 use borrow.Author.Needs.{needs}

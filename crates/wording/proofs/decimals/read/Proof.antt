@@ -1,6 +1,5 @@
 -- `decimals::read` meets its contract: at each turn the answer from the start is the answer from here, and what was read stands at the front of out.
 use Prim.Native.Nat.{_+_, _-_}
-use native.Mathlib.Omega.{arith}
 use lib.ListN.{length}
 use mathlib.Core.Path.{sym, _∙_}
 use Rattle.wording.proofs.Decoding.{At, at-start, at-wrong, at-full, at-on, at-end}
@@ -37,7 +36,11 @@ same-length : tie.Need-same-length Inv-loop μ-loop
 same-length c = c .before .before .before .before .turn .kept .0 ∙ c .before .before .before .before .before .before .before .before .loop .inv .kept
 
 returns : tie.Need-returns Inv-loop μ-loop
-returns c = at-wrong _ _ _ _ _ _ (c .before .before .before .before .before .before .before .before .loop .inv) _ (c .before .before .before .before .before .character .ensures) (c .before .before .before .before .before .before .before .loop-test .taken) _ (sym (c .enum-told .given .1) ∙ c .before .before .before .before .turn .ensures .1 .0) (c .before .before .before .before .turn .ensures .1 .1)
+returns c =
+    let loop = c .before .before .before .before .before .before .before .before .loop in
+    let loop-test = c .before .before .before .before .before .before .before .loop-test in
+    let turn′ = c .before .before .before .before .turn in
+    at-wrong _ _ _ _ _ _ (loop .inv) _ (c .before .before .before .before .before .character .ensures) (loop-test .taken) _ (sym (c .enum-told .given .1) ∙ turn′ .ensures .1 .0) (turn′ .ensures .1 .1)
 
 enum-told-2 : tie.Need-enum-told-2 Inv-loop μ-loop
 enum-told-2 c = search needs
@@ -46,7 +49,11 @@ same-length-2 : tie.Need-same-length-2 Inv-loop μ-loop
 same-length-2 c = c .before .before .before .before .turn .kept .0 ∙ c .before .before .before .before .before .before .before .before .loop .inv .kept
 
 returns-2 : tie.Need-returns-2 Inv-loop μ-loop
-returns-2 c = at-full _ _ _ _ _ _ (c .before .before .before .before .before .before .before .before .loop .inv) _ (c .before .before .before .before .before .character .ensures) (c .before .before .before .before .before .before .before .loop-test .taken) _ (sym (c .enum-told2 .given .1) ∙ c .before .before .before .before .turn .ensures .1 .0) (c .before .before .before .before .turn .ensures .1 .1)
+returns-2 c =
+    let loop = c .before .before .before .before .before .before .before .before .loop in
+    let loop-test = c .before .before .before .before .before .before .before .loop-test in
+    let turn′ = c .before .before .before .before .turn in
+    at-full _ _ _ _ _ _ (loop .inv) _ (c .before .before .before .before .before .character .ensures) (loop-test .taken) _ (sym (c .enum-told2 .given .1) ∙ turn′ .ensures .1 .0) (turn′ .ensures .1 .1)
 
 add-i : tie.Need-add-i Inv-loop μ-loop
 add-i c = search needs
@@ -55,7 +62,12 @@ loop-less : tie.Need-loop-less Inv-loop μ-loop
 loop-less c = search needs
 
 loop-again : tie.Need-loop-again Inv-loop μ-loop
-loop-again c = at-on _ _ _ _ _ _ (c .before .before .before .before .before .before .before .before .before .loop .inv) _ (c .before .before .before .before .before .before .character .ensures) (c .before .before .before .before .before .before .before .before .loop-test .taken) _ _ _ (sym (c .before .w .given .1) ∙ c .before .before .before .before .before .turn .ensures .1 .0) (rw (c .before .w .given .1) at (c .before .before .before .before .before .turn .ensures .0)) (c .before .before .before .before .before .turn .ensures .1 .1) (c .before .before .before .before .before .turn .kept .0)
+loop-again c =
+    let loop = c .before .before .before .before .before .before .before .before .before .loop in
+    let loop-test = c .before .before .before .before .before .before .before .before .loop-test in
+    let character = c .before .before .before .before .before .before .character in
+    let turn′ = c .before .before .before .before .before .turn in
+    at-on _ _ _ _ _ _ (loop .inv) _ (character .ensures) (loop-test .taken) _ _ _ (sym (c .before .w .given .1) ∙ turn′ .ensures .1 .0) (rw (c .before .w .given .1) at (turn′ .ensures .0)) (turn′ .ensures .1 .1) (turn′ .kept .0)
 
 same-length-3 : tie.Need-same-length-3 Inv-loop μ-loop
 same-length-3 c = c .before .loop .inv .kept

@@ -1,5 +1,4 @@
 -- Each turn has one digit less to write. At each return the tests that led there pick the case of the definition.
-use native.Mathlib.Omega.{arith}
 use Rattle.wording.proofs.Writing.{digits-none, digits-one, digits-more}
 use borrow.Author.Needs.{needs}
 use Prim.Native.Nat.{ℕ, _<_}
@@ -55,7 +54,11 @@ last-digits-same-length-2 : (t : ℕ) → last-digits-lts.Need-same-length-2 (di
 last-digits-same-length-2 t c = search needs
 
 last-digits-returns-3 : (t : ℕ) → last-digits-lts.Need-returns-3 (digit-reads.Asked, digit-reads.Learnt, put-reads.Asked, put-reads.Learnt, last-digits-below t, last-digits.Post) (last-digits-at t) last-digits.Post
-last-digits-returns-3 t c = digits-more _ _ _ _ _ _ (c .before .before .before .before .before .before .before .before .before .before .if1 .left) (c .before .before .before .before .before .before .before .before .before .if2 .left) (c .before .before .before .before .before .before .before .last-digits .ensures) (c .before .before .before .digit2 .ensures) (c .before .before .put2 .ensures)
+last-digits-returns-3 t c =
+    let if1 = c .before .before .before .before .before .before .before .before .before .before .if1 in
+    let if2 = c .before .before .before .before .before .before .before .before .before .if2 in
+    let last-digits′ = c .before .before .before .before .before .before .before .last-digits in
+    digits-more _ _ _ _ _ _ (if1 .left) (if2 .left) (last-digits′ .ensures) (c .before .before .before .digit2 .ensures) (c .before .before .put2 .ensures)
 
 pub +last-digits-spec : {M : Type 1} → statement M
 +last-digits-spec = close μ-last-digits λ t. last-digits-lts.spec (

@@ -1,7 +1,6 @@
 -- `page::bytes` meets its contract: at each turn what is to be written from the start is what is to be written from here.
 use Prim.Native.Nat.{_-_}
 use lib.ListN.{length}
-use mathlib.Core.Path.{_∙_, sym, refl}
 use Rattle.wording.proofs.Listing.{At, at-start, at-none, at-more, at-end}
 use borrow.Author.Needs.{needs}
 use Rattle.wording.proofs.page.bytes.Statement.{statement}
@@ -45,7 +44,11 @@ loop-less : tie.Need-loop-less Inv-loop μ-loop
 loop-less c = search needs
 
 loop-again : tie.Need-loop-again Inv-loop μ-loop
-loop-again c = at-more _ _ _ _ _ _ _ _ _ (c .before .before .before .before .before .before .before .before .loop .inv) _ _ _ (c .before .before .before .wide .ensures .0) (c .before .before .before .before .before .before .before .loop-test .taken) (c .before .before .before .before .before .before .if1 .left) (c .before .before .spaced .ensures) (c .before .before .spaced .kept .0)
+loop-again c =
+    let loop = c .before .before .before .before .before .before .before .before .loop in
+    let loop-test = c .before .before .before .before .before .before .before .loop-test in
+    let if1 = c .before .before .before .before .before .before .if1 in
+    at-more _ _ _ _ _ _ _ _ _ (loop .inv) _ _ _ (c .before .before .before .wide .ensures .0) (loop-test .taken) (if1 .left) (c .before .before .spaced .ensures) (c .before .before .spaced .kept .0)
 
 same-length-2 : tie.Need-same-length-2 Inv-loop μ-loop
 same-length-2 c = c .before .loop .inv .kept

@@ -1,7 +1,6 @@
 -- `page::skip` meets its contract: at each turn what stands past the bars from the start is what stands past those left from here.
 use Prim.Native.Nat.{_-_}
 use lib.ListN.{length}
-use mathlib.Core.Path.{_∙_, sym, ap}
 use Rattle.wording.proofs.Pieces.{Passing, pass-start, pass-none, pass-more, pass-end}
 use borrow.Author.Needs.{needs}
 use Rattle.wording.proofs.page.skip.Statement.{statement}

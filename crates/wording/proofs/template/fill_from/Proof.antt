@@ -45,7 +45,11 @@ loop-less : tie.Need-loop-less Inv-loop μ-loop
 loop-less c = search needs
 
 loop-again : tie.Need-loop-again Inv-loop μ-loop
-loop-again c = at-more _ _ _ _ _ _ _ _ (c .before .before .before .before .before .before .before .before .before .loop .inv) _ _ _ _ (c .before .before .before .before .before .before .wide .ensures .0) refl (c .before .before .before .before .before .before .before .before .loop-test .taken) (c .before .before .before .before .before .if1 .left) (c .before .before .part .ensures) (c .before .before .part .kept .0)
+loop-again c =
+    let loop = c .before .before .before .before .before .before .before .before .before .loop in
+    let loop-test = c .before .before .before .before .before .before .before .before .loop-test in
+    let wide = c .before .before .before .before .before .before .wide in
+    at-more _ _ _ _ _ _ _ _ (loop .inv) _ _ _ _ (wide .ensures .0) refl (loop-test .taken) (c .before .before .before .before .before .if1 .left) (c .before .before .part .ensures) (c .before .before .part .kept .0)
 
 same-length-2 : tie.Need-same-length-2 Inv-loop μ-loop
 same-length-2 c = c .before .loop .inv .kept

@@ -53,7 +53,10 @@ same-length-3 c = search needs
 
 returns-3 : tie.Need-returns-3
 unfolding Templates·told pick
-returns-3 c = rw (lt-leb _ _ (c .before .before .before .before .before .before .before .if1 .left), ne-eqb _ _ (c .before .before .before .before .before .before .if2 .left), eq-eqb _ _ (c .before .before .before .before .before .if3 .taken), ← c .before .before .before .fact3 .ensures) (c .before .before .list2 .ensures)
+returns-3 c =
+    let if1 = c .before .before .before .before .before .before .before .if1 in
+    let if2 = c .before .before .before .before .before .before .if2 in
+    rw (lt-leb _ _ (if1 .left), ne-eqb _ _ (if2 .left), eq-eqb _ _ (c .before .before .before .before .before .if3 .taken), ← c .before .before .before .fact3 .ensures) (c .before .before .list2 .ensures)
 
 fact-requires-4 : tie.Need-fact-requires-4
 fact-requires-4 c κs = search needs
@@ -69,7 +72,12 @@ same-length-4 c = search needs
 
 returns-4 : tie.Need-returns-4
 unfolding Templates·told pick
-returns-4 c = rw (lt-leb _ _ (c .before .before .before .before .before .before .before .before .before .if1 .left), ne-eqb _ _ (c .before .before .before .before .before .before .before .before .if2 .left), ne-eqb _ _ (c .before .before .before .before .before .before .before .if3 .left), eq-eqb _ _ (c .before .before .before .before .before .before .if4 .taken), ← c .before .before .before .before .fact4 .ensures, ← c .before .before .before .paired .ensures) (c .before .before .list3 .ensures)
+returns-4 c =
+    let if1 = c .before .before .before .before .before .before .before .before .before .if1 in
+    let if2 = c .before .before .before .before .before .before .before .before .if2 in
+    let if3 = c .before .before .before .before .before .before .before .if3 in
+    let if4 = c .before .before .before .before .before .before .if4 in
+    rw (lt-leb _ _ (if1 .left), ne-eqb _ _ (if2 .left), ne-eqb _ _ (if3 .left), eq-eqb _ _ (if4 .taken), ← c .before .before .before .before .fact4 .ensures, ← c .before .before .before .paired .ensures) (c .before .before .list3 .ensures)
 
 fact-requires-5 : tie.Need-fact-requires-5
 fact-requires-5 c κs = search needs
@@ -82,7 +90,11 @@ same-length-5 c = search needs
 
 returns-5 : tie.Need-returns-5
 unfolding Templates·told pick
-returns-5 c = rw (lt-leb _ _ (c .before .before .before .before .before .before .before .before .if1 .left), ne-eqb _ _ (c .before .before .before .before .before .before .before .if2 .left), ne-eqb _ _ (c .before .before .before .before .before .before .if3 .left), ne-eqb _ _ (c .before .before .before .before .before .if4 .left), ← c .before .before .before .fact5 .ensures) (c .before .before .named .ensures)
+returns-5 c =
+    let if1 = c .before .before .before .before .before .before .before .before .if1 in
+    let if2 = c .before .before .before .before .before .before .before .if2 in
+    let if3 = c .before .before .before .before .before .before .if3 in
+    rw (lt-leb _ _ (if1 .left), ne-eqb _ _ (if2 .left), ne-eqb _ _ (if3 .left), ne-eqb _ _ (c .before .before .before .before .before .if4 .left), ← c .before .before .before .fact5 .ensures) (c .before .before .named .ensures)
 
 pub told-spec : {M : Type 1} → statement M
 told-spec =
