@@ -33,8 +33,8 @@ extern "C" {
 #define WAXDAPPLE_CHECK_PHRASES 6144
 #define WAXDAPPLE_CHECK_BASE 576
 
-/* No certificate is longer. */
-#define WAXDAPPLE_CERTIFICATE 65535
+/* No certificate of an evaluation is longer (`evaluate-room` in docs/THEOREMS.md): an output of that length is never too short. */
+#define WAXDAPPLE_CERTIFICATE 47612
 
 /* Evaluates a sheet. Answers 0 where it is accepted: the certificate is in front of out, *place is its length, *work and *inferences are the two
  * counts, and out is untouched past it. Else the answer is the refusal's number (1 to 18), *place its place, *work and *inferences are 0, and out

@@ -18,7 +18,7 @@ use Rattle.forms.specs.Table.{tree}
 use Rattle.forms.proofs.Trees.{truth-at}
 use Rattle.rules.specs.declared.Applied.{Applied}
 use Rattle.rules.specs.Base.{baseOf}
-use Rattle.rules.proofs.Arguments.{three, ruled-at}
+use Rattle.theorems.proofs.Arguments.{three, ruled-at}
 use Rattle.rules.specs.Applied.{Ready, whether, outcome, Comes, Ruling}
 use Rattle.checker.specs.declared.Arguments.{Arguments}
 use Rattle.checker.specs.declared.Walked.{Walked}

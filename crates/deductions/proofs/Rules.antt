@@ -38,7 +38,7 @@ use Rattle.rules.specs.Base.{Alike}
 use Rattle.deductions.specs.Asked.{Setting, Applicable}
 use Rattle.deductions.specs.Meets.{Meets, Applying}
 use Rattle.deductions.proofs.Tokens.{take-run}
-use Rattle.rules.proofs.Arguments.{three, ruled-at}
+use Rattle.theorems.proofs.Arguments.{three, ruled-at}
 use Rattle.rules.proofs.Sets.{members-alike}
 use Rattle.deductions.proofs.Growth.{used}
 

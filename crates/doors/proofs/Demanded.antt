@@ -22,14 +22,16 @@ use Rattle.theorems.proofs.Accepting.{accepts-exactly}
 use Rattle.theorems.proofs.Checking.{checks-exactly}
 use Rattle.theorems.proofs.Soundness.{proves-sound}
 use Rattle.theorems.proofs.Parted.{parts-read}
+use Rattle.theorems.specs.Longest.{Longest-accepted}
 use Rattle.theorems.proofs.Standing.{answers-stand}
+use Rattle.theorems.proofs.Longest.{longest-accepted}
 use Rattle.words.proofs.Fronts.{take-front}
 use Rattle.evaluator.specs.Door.{Evaluates}
 use Rattle.evaluator.proofs.Scratch.{door-finished}
 use Rattle.checker.specs.Verdicts.{scratch}
 use Rattle.checker.specs.Demand.{Check-exactly}
 use Rattle.checker.proofs.Demanded.{check-exactly}
-use Rattle.doors.specs.Demands.{Evaluate-once, Evaluate-refuses, Evaluate-scratch, Evaluate-exactly, Evaluate-stands, Certificate-stands}
+use Rattle.doors.specs.Demands.{Evaluate-once, Evaluate-refuses, Evaluate-scratch, Evaluate-exactly, Evaluate-room, Evaluate-stands, Certificate-stands}
 
 -- answers with the same numbers
 pub accepted-same : {a a′ b b′ c c′ : ℕ} → a ≡ a′ → b ≡ b′ → c ≡ c′ → Accepted a (record { 0 = b }) (record { 0 = c }) ≡ Accepted a′ (record { 0 = b′ }) (record { 0 = c′ })
@@ -149,6 +151,14 @@ evaluate-exactly s budget r out₀ out bs₀ bs x within long S end n w i reads 
       let is = accepts-exactly s S end budget (length out₀) (certificate d) w i reads within .1 (d, derives, spent, refl, rules, omega arith) in
       accepting-numbers s budget r out₀ out bs₀ bs x within long (certificate d) w i is ∙ ap (λ (m : ℕ). 0 ∷ (m ∷ (w ∷ (i ∷ [])))) (sym many)),
 )
+
+pub evaluate-room : Evaluate-room
+unfolding Evaluate-room Longest-accepted
+evaluate-room s budget r out₀ out bs₀ bs x within long n w i z =
+    let A = accepting s budget r out₀ out bs₀ bs x within long n w i z in
+    let many = A .many in
+    let short = longest-accepted s budget (length out₀) (A .bytes) w i (A .is) in
+    omega arith
 
 pub evaluate-stands : Evaluate-stands
 unfolding Evaluate-stands Answers-stand

@@ -52,6 +52,12 @@ Evaluate-exactly =
     ↔ ((d : Derived) × Derives (S .phrases) 64 empty (S .base) (S .root) d w × (w ≤ budget) × (n ≡ length (certificate d))
     × (i ≡ inferences (d .proof)) × (n ≤ length out₀) × (out ≡ fronted (certificate d) out₀))
 
+-- no certificate is longer than 47,612 bytes: an output of that length has room for any
+unfoldable pub Evaluate-room : Type 0
+Evaluate-room =
+    (s : List ℕ) (budget : ℕ) (r : Evaluated) (out₀ out : List ℕ) (bs₀ bs : List (List ℕ)) → Evaluates s budget r out₀ out bs₀ bs →
+    budget ≤ 1024 → enough evaluationLengths bs₀ ≡ true → (n w i : ℕ) → evaluatedNumbers r ≡ 0 ∷ (n ∷ (w ∷ (i ∷ []))) → n ≤ 47612
+
 -- demand 3: an accepted answer stands. With propositions and assumptions appended to the sheet, a budget no smaller within its limit and room for the
 -- certificate, the answer is the same and the certificate the same to the byte
 unfoldable pub Evaluate-stands : Type 0

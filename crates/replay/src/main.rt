@@ -379,7 +379,7 @@ fn is_evaluated(line: &[u8], from: usize, lent: usize, budget: usize, room: usiz
     }
 }
 
-// The answer to such a line. No certificate is as long as 65,536 bytes, so that more room changes nothing.
+// The answer to such a line. No certificate is as long as 65,536 bytes (`longest-accepted` of `theorems`), so that more room changes nothing.
 fn answer_evaluation(sheet: &[u8], lent: usize, budget: usize, room: usize) {
     let mut out = [0u8; 65536];
     if room < 65536 {

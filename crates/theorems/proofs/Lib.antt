@@ -5,6 +5,7 @@ pub mod Closed
 -- the buffers of a door
 pub mod Buffers
 -- plain proofs: what they prove is true, and what is derived they prove
+pub mod Arguments
 pub mod Soundness
 pub mod Certified
 -- the interpreter and the rules, and demand 2 of the evaluator
@@ -42,5 +43,8 @@ pub mod Parted
 -- demand 3
 pub mod Diluted
 pub mod Standing
+-- how long a sheet and a certificate can be
+pub mod Spans
+pub mod Longest
 -- what demand 2 shuts out
 pub mod ShutOut

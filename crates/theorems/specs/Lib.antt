@@ -1,4 +1,5 @@
 pub mod Lists
 pub mod Demands
 pub mod Growth
+pub mod Longest
 pub mod Wrong

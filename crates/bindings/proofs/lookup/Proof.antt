@@ -9,9 +9,6 @@ use Rattle.bindings.proofs.Numbers.{found-end, found-here, found-on}
 use Rattle.bindings.proofs.Chains.{linked-low, linked-on}
 use Rattle.bindings.proofs.lookup.Statement.{statement}
 use Rattle.bindings.proofs.lookup.Tie as tie
-use Rattle.bindings.proofs.lookup.Reads as reads
-use Rattle.bindings.proofs.lookup.Lts as lts
-use Rattle.bindings.proofs.load.Reads as load-reads
 
 abbrev Inv-loop : tie.InvT-loop
 Inv-loop t env k e₀ i₀ e i = Linked t e × (found t env k ≡ found t e i)

@@ -5,19 +5,15 @@ use lib.Seq.{length-take-le}
 use borrow.Author.Needs.{needs}
 use Rattle.cases.proofs.case.Statement.{statement}
 use Rattle.cases.proofs.case.Tie as tie
-use Rattle.cases.proofs.case.Reads as reads
-use Rattle.cases.proofs.case.Lts as lts
-use Rattle.cases.proofs.evaluated.Reads as evaluated-reads
-use Rattle.io.proofs.write_all.Reads as write-all-reads
 
 write-all-requires : tie.Need-write-all-requires
-write-all-requires c κs = search needs
+write-all-requires c κs = tt
 
 slice-aggregate-write-all : tie.Need-slice-aggregate-write-all
 slice-aggregate-write-all c = search needs
 
 write-all-requires-2 : tie.Need-write-all-requires-2
-write-all-requires-2 c κs = search needs
+write-all-requires-2 c κs = tt
 
 array-borrow-prefix-out : tie.Need-array-borrow-prefix-out
 array-borrow-prefix-out c = search needs
@@ -28,19 +24,19 @@ slice-aggregate-evaluated c =
     sym (length-take-le _ _ (omega arith))
 
 evaluated-requires : tie.Need-evaluated-requires
-evaluated-requires c κs = search needs
+evaluated-requires c κs = tt
 
 returns : tie.Need-returns
-returns c = search needs
+returns c = tt
 
 slice-aggregate-evaluated-2 : tie.Need-slice-aggregate-evaluated-2
 slice-aggregate-evaluated-2 c = search needs
 
 evaluated-requires-2 : tie.Need-evaluated-requires-2
-evaluated-requires-2 c κs = search needs
+evaluated-requires-2 c κs = tt
 
 returns-2 : tie.Need-returns-2
-returns-2 c = search needs
+returns-2 c = tt
 
 pub case-spec : {M : Type 1} → statement M
 case-spec =

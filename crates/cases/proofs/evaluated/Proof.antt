@@ -6,11 +6,6 @@ use Rattle.evaluator.proofs.Fitting.{accepted-fits}
 use borrow.Author.Needs.{needs}
 use Rattle.cases.proofs.evaluated.Statement.{statement}
 use Rattle.cases.proofs.evaluated.Tie as tie
-use Rattle.cases.proofs.evaluated.Reads as reads
-use Rattle.cases.proofs.evaluated.Lts as lts
-use Rattle.cases.proofs.accepted.Reads as accepted-reads
-use Rattle.cases.proofs.refused.Reads as refused-reads
-use Rattle.evaluator.proofs.evaluate.Reads as evaluate-reads
 
 slice-aggregate-evaluate : tie.Need-slice-aggregate-evaluate
 slice-aggregate-evaluate c = search needs
@@ -34,7 +29,7 @@ slice-aggregate-evaluate-7 : tie.Need-slice-aggregate-evaluate-7
 slice-aggregate-evaluate-7 c = search needs
 
 evaluate-requires : tie.Need-evaluate-requires
-evaluate-requires c κs = search needs
+evaluate-requires c κs = tt
 
 enum-known-n : tie.Need-enum-known-n
 enum-known-n c = search needs
@@ -52,7 +47,7 @@ slice-aggregate-accepted c =
     sym (length-take-le _ _ (omega arith))
 
 accepted-requires : tie.Need-accepted-requires
-accepted-requires c κs = search needs
+accepted-requires c κs = tt
 
 enum-known-why : tie.Need-enum-known-why
 enum-known-why c = search needs
@@ -61,19 +56,19 @@ slice-aggregate-refused : tie.Need-slice-aggregate-refused
 slice-aggregate-refused c = search needs
 
 refused-requires : tie.Need-refused-requires
-refused-requires c κs = search needs
+refused-requires c κs = tt
 
 same-length : tie.Need-same-length
 same-length c = search needs
 
 returns : tie.Need-returns
-returns c = search needs
+returns c = tt
 
 same-length-2 : tie.Need-same-length-2
 same-length-2 c = search needs
 
 returns-2 : tie.Need-returns-2
-returns-2 c = search needs
+returns-2 c = tt
 
 pub evaluated-spec : {M : Type 1} → statement M
 evaluated-spec =

@@ -3,12 +3,6 @@ use mathlib.Core.Path.{_∙_}
 use Rattle.certificates.proofs.Certifying.{count-fits, recording, proving, conclusion-fits, emits}
 use Rattle.certificates.proofs.emit.Statement.{statement}
 use Rattle.certificates.proofs.emit.Tie as tie
-use Rattle.certificates.proofs.emit.Reads as reads
-use Rattle.certificates.proofs.emit.Lts as lts
-use Rattle.certificates.proofs.emit_number.Reads as emit-number-reads
-use Rattle.certificates.proofs.emit_place.Reads as emit-place-reads
-use Rattle.certificates.proofs.emit_proof.Reads as emit-proof-reads
-use Rattle.certificates.proofs.emit_records.Reads as emit-records-reads
 
 emit-number-requires : tie.Need-emit-number-requires
 emit-number-requires c κs = count-fits _ _ _ _ _ _ _ _ _ (c .before .before .before .before .before .pre)

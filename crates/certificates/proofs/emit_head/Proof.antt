@@ -3,10 +3,6 @@ use Rattle.certificates.proofs.Pieces.{head-fits, rule-fits, rule-emitt
 use borrow.Author.Needs.{needs}
 use Rattle.certificates.proofs.emit_head.Statement.{statement}
 use Rattle.certificates.proofs.emit_head.Tie as tie
-use Rattle.certificates.proofs.emit_head.Reads as reads
-use Rattle.certificates.proofs.emit_head.Lts as lts
-use Rattle.certificates.proofs.emit_number.Reads as emit-number-reads
-use Rattle.words.proofs.at.Reads as at-reads
 
 at-requires : tie.Need-at-requires
 at-requires c κs = search needs

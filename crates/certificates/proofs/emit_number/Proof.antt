@@ -5,10 +5,6 @@ use Rattle.certificates.proofs.Emitting.{groups-few}
 use borrow.Author.Needs.{needs}
 use Rattle.certificates.proofs.emit_number.Statement.{statement}
 use Rattle.certificates.proofs.emit_number.Tie as tie
-use Rattle.certificates.proofs.emit_number.Reads as reads
-use Rattle.certificates.proofs.emit_number.Lts as lts
-use Rattle.numbers.proofs.length_of.Reads as length-of-reads
-use Rattle.numbers.proofs.write.Reads as write-reads
 
 write-requires : tie.Need-write-requires
 unfolding Fits

@@ -3,10 +3,6 @@ use native.Mathlib.Omega.{arith}
 use borrow.Author.Needs.{needs}
 use Rattle.certificates.proofs.emit_place.Statement.{statement}
 use Rattle.certificates.proofs.emit_place.Tie as tie
-use Rattle.certificates.proofs.emit_place.Reads as reads
-use Rattle.certificates.proofs.emit_place.Lts as lts
-use Rattle.certificates.proofs.emit_number.Reads as emit-number-reads
-use Rattle.words.proofs.at.Reads as at-reads
 
 at-requires : tie.Need-at-requires
 at-requires c κs = search needs

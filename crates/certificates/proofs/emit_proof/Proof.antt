@@ -4,12 +4,6 @@ use Rattle.certificates.proofs.Proving.{ProofsAt, proofs-start, place-f
 use borrow.Author.Needs.{needs}
 use Rattle.certificates.proofs.emit_proof.Statement.{statement}
 use Rattle.certificates.proofs.emit_proof.Tie as tie
-use Rattle.certificates.proofs.emit_proof.Reads as reads
-use Rattle.certificates.proofs.emit_proof.Lts as lts
-use Rattle.certificates.proofs.emit_head.Reads as emit-head-reads
-use Rattle.certificates.proofs.emit_place.Reads as emit-place-reads
-use Rattle.certificates.proofs.head_of.Reads as head-of-reads
-use Rattle.words.proofs.at.Reads as at-reads
 
 abbrev Inv-loop : tie.InvT-loop
 Inv-loop out₀ listing tokens m at writes i₀ left₀ next₀ out i left next = ProofsAt tokens m listing writes at out₀ out i left next

@@ -3,13 +3,6 @@ use Rattle.certificates.proofs.Pieces.{kind-fits, atom-fits, atom-emitt
 use borrow.Author.Needs.{needs}
 use Rattle.certificates.proofs.emit_record.Statement.{statement}
 use Rattle.certificates.proofs.emit_record.Tie as tie
-use Rattle.certificates.proofs.emit_record.Reads as reads
-use Rattle.certificates.proofs.emit_record.Lts as lts
-use Rattle.certificates.proofs.emit_number.Reads as emit-number-reads
-use Rattle.certificates.proofs.emit_place.Reads as emit-place-reads
-use Rattle.forms.proofs.kind_of.Reads as kind-of-reads
-use Rattle.forms.proofs.left_of.Reads as left-of-reads
-use Rattle.forms.proofs.right_of.Reads as right-of-reads
 
 kind-of-requires : tie.Need-kind-of-requires
 kind-of-requires c κs = search needs

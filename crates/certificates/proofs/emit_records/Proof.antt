@@ -5,10 +5,6 @@ use Rattle.certificates.proofs.Recording.{RecordsAt, records-start, rec
 use borrow.Author.Needs.{needs}
 use Rattle.certificates.proofs.emit_records.Statement.{statement}
 use Rattle.certificates.proofs.emit_records.Tie as tie
-use Rattle.certificates.proofs.emit_records.Reads as reads
-use Rattle.certificates.proofs.emit_records.Lts as lts
-use Rattle.certificates.proofs.emit_record.Reads as emit-record-reads
-use Rattle.words.proofs.at.Reads as at-reads
 
 abbrev Inv-loop : tie.InvT-loop
 Inv-loop out₀ listing k forms n at writes i₀ next₀ out i next = RecordsAt forms n listing k writes at out₀ out i next

@@ -3,9 +3,6 @@ use mathlib.Core.Path.{refl}
 use borrow.Author.Needs.{needs}
 use Rattle.certificates.proofs.enter.Statement.{statement}
 use Rattle.certificates.proofs.enter.Tie as tie
-use Rattle.certificates.proofs.enter.Reads as reads
-use Rattle.certificates.proofs.enter.Lts as lts
-use Rattle.words.proofs.put.Reads as put-reads
 
 add-put : tie.Need-add-put
 add-put c = search needs

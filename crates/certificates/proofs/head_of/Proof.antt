@@ -7,10 +7,6 @@ use Rattle.certificates.specs.Emitted.{headBy}
 use borrow.Author.Needs.{needs}
 use Rattle.certificates.proofs.head_of.Statement.{statement}
 use Rattle.certificates.proofs.head_of.Tie as tie
-use Rattle.certificates.proofs.head_of.Reads as reads
-use Rattle.certificates.proofs.head_of.Lts as lts
-use Rattle.language.proofs.arguments.Reads as arguments-reads
-use Rattle.words.proofs.at.Reads as at-reads
 
 at-requires : tie.Need-at-requires
 at-requires c κs = search needs

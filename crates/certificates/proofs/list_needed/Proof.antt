@@ -4,11 +4,6 @@ use Rattle.certificates.proofs.Needing.{Needing, needing-start, name-li
 use borrow.Author.Needs.{needs}
 use Rattle.certificates.proofs.list_needed.Statement.{statement}
 use Rattle.certificates.proofs.list_needed.Tie as tie
-use Rattle.certificates.proofs.list_needed.Reads as reads
-use Rattle.certificates.proofs.list_needed.Lts as lts
-use Rattle.certificates.proofs.head_of.Reads as head-of-reads
-use Rattle.certificates.proofs.list.Reads as list-reads
-use Rattle.words.proofs.at.Reads as at-reads
 
 abbrev Inv-loop : tie.InvT-loop
 Inv-loop listing₀ forms n tokens m i₀ left₀ count₀ rules₀ listing i left count rules = Needing forms n tokens m listing₀ listing i left count rules

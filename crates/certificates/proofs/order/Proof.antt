@@ -4,11 +4,6 @@ use Rattle.certificates.proofs.Ordering.{telling, concluding, orders}
 use borrow.Author.Needs.{needs}
 use Rattle.certificates.proofs.order.Statement.{statement}
 use Rattle.certificates.proofs.order.Tie as tie
-use Rattle.certificates.proofs.order.Reads as reads
-use Rattle.certificates.proofs.order.Lts as lts
-use Rattle.certificates.proofs.list.Reads as list-reads
-use Rattle.certificates.proofs.list_needed.Reads as list-needed-reads
-use Rattle.words.proofs.wipe.Reads as wipe-reads
 
 wipe-requires : tie.Need-wipe-requires
 wipe-requires c κs = let x = c .before .before .before .before .pre .room in search needs

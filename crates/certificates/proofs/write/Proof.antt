@@ -3,10 +3,6 @@ use Rattle.certificates.proofs.Certifying.{measuring, writing, written,
 use borrow.Author.Needs.{needs}
 use Rattle.certificates.proofs.write.Statement.{statement}
 use Rattle.certificates.proofs.write.Tie as tie
-use Rattle.certificates.proofs.write.Reads as reads
-use Rattle.certificates.proofs.write.Lts as lts
-use Rattle.certificates.proofs.emit.Reads as emit-reads
-use Rattle.certificates.proofs.order.Reads as order-reads
 
 order-requires : tie.Need-order-requires
 order-requires c κs = c .before .before .before .before .before .pre

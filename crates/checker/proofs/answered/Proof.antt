@@ -3,8 +3,6 @@ use Rattle.checker.specs.Walk.{walkedOf}
 use borrow.Author.Needs.{needs}
 use Rattle.checker.proofs.answered.Statement.{statement}
 use Rattle.checker.proofs.answered.Tie as tie
-use Rattle.checker.proofs.answered.Reads as reads
-use Rattle.checker.proofs.answered.Lts as lts
 
 enum-known-r : tie.Need-enum-known-r
 enum-known-r c = search needs

@@ -4,9 +4,6 @@ use Rattle.checker.specs.Places.{nameIf, nextIf}
 use borrow.Author.Needs.{needs}
 use Rattle.checker.proofs.argument.Statement.{statement}
 use Rattle.checker.proofs.argument.Tie as tie
-use Rattle.checker.proofs.argument.Reads as reads
-use Rattle.checker.proofs.argument.Lts as lts
-use Rattle.checker.proofs.named.Reads as named-reads
 
 named-requires : tie.Need-named-requires
 named-requires c κs = search needs

@@ -3,9 +3,6 @@ use Rattle.checker.proofs.Taking.{given-are}
 use borrow.Author.Needs.{needs}
 use Rattle.checker.proofs.given.Statement.{statement}
 use Rattle.checker.proofs.given.Tie as tie
-use Rattle.checker.proofs.given.Reads as reads
-use Rattle.checker.proofs.given.Lts as lts
-use Rattle.checker.proofs.argument.Reads as argument-reads
 
 argument-requires : tie.Need-argument-requires
 argument-requires c κs = search needs

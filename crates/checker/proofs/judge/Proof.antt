@@ -4,10 +4,6 @@ use borrow.Author.Needs.{needs}
 use Rattle.checker.proofs.Judging.{judge-walks, judge-refused, judge-stands, judge-differs}
 use Rattle.checker.proofs.judge.Statement.{statement}
 use Rattle.checker.proofs.judge.Tie as tie
-use Rattle.checker.proofs.judge.Reads as reads
-use Rattle.checker.proofs.judge.Lts as lts
-use Rattle.checker.proofs.walk.Reads as walk-reads
-use Rattle.words.proofs.at.Reads as at-reads
 
 walk-requires : tie.Need-walk-requires
 walk-requires c κs = judge-walks _ _ _ _ _ _ _ _ (c .before .before .before .before .before .before .pre .long) (c .before .before .before .before .before .before .pre .small) (c .before .before .before .before .before .before .pre)

@@ -2,10 +2,6 @@
 use borrow.Author.Needs.{needs}
 use Rattle.checker.proofs.named.Statement.{statement}
 use Rattle.checker.proofs.named.Tie as tie
-use Rattle.checker.proofs.named.Reads as reads
-use Rattle.checker.proofs.named.Lts as lts
-use Rattle.checker.proofs.taken.Reads as taken-reads
-use Rattle.words.proofs.at.Reads as at-reads
 
 taken-requires : tie.Need-taken-requires
 taken-requires c κs = search needs

@@ -5,8 +5,6 @@ use Rattle.checker.specs.Tally.{ownNumber}
 use borrow.Author.Needs.{needs}
 use Rattle.checker.proofs.own.Statement.{statement}
 use Rattle.checker.proofs.own.Tie as tie
-use Rattle.checker.proofs.own.Reads as reads
-use Rattle.checker.proofs.own.Lts as lts
 
 add-result : tie.Need-add-result
 add-result c = search needs

@@ -5,9 +5,6 @@ use Rattle.numbers.specs.Gotten.{gotten}
 use Rattle.checker.proofs.Statements.{conclusion-refused, conclusion-read, conclusion-goes-on}
 use Rattle.checker.proofs.read_conclusion.Statement.{statement}
 use Rattle.checker.proofs.read_conclusion.Tie as tie
-use Rattle.checker.proofs.read_conclusion.Reads as reads
-use Rattle.checker.proofs.read_conclusion.Lts as lts
-use Rattle.numbers.proofs.read_below.Reads as read-below-reads
 
 read-below-requires : tie.Need-read-below-requires
 read-below-requires c κs = search needs

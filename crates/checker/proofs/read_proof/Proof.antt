@@ -4,10 +4,6 @@ use borrow.Author.Needs.{needs}
 use Rattle.checker.proofs.Statements.{proof-refused, proof-read}
 use Rattle.checker.proofs.read_proof.Statement.{statement}
 use Rattle.checker.proofs.read_proof.Tie as tie
-use Rattle.checker.proofs.read_proof.Reads as reads
-use Rattle.checker.proofs.read_proof.Lts as lts
-use Rattle.checker.proofs.read_conclusion.Reads as read-conclusion-reads
-use Rattle.checker.proofs.read_node.Reads as read-node-reads
 
 read-node-requires : tie.Need-read-node-requires
 read-node-requires c κs = search needs

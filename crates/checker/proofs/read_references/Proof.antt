@@ -6,9 +6,6 @@ use Rattle.numbers.specs.Gotten.{gotten}
 use Rattle.checker.proofs.Tallies.{Referring, referring-none, referring-more, referring-refused, referring-all}
 use Rattle.checker.proofs.read_references.Statement.{statement}
 use Rattle.checker.proofs.read_references.Tie as tie
-use Rattle.checker.proofs.read_references.Reads as reads
-use Rattle.checker.proofs.read_references.Lts as lts
-use Rattle.numbers.proofs.read_below.Reads as read-below-reads
 
 abbrev Inv-loop : tie.InvT-loop
 Inv-loop s count k at i₀ next₀ i next = Referring s count k at i next

@@ -5,11 +5,6 @@ use Rattle.numbers.specs.Gotten.{gotten}
 use Rattle.checker.proofs.Tallies.{rule-refused, arguments-refused, rule-tallied}
 use Rattle.checker.proofs.read_rule.Statement.{statement}
 use Rattle.checker.proofs.read_rule.Tie as tie
-use Rattle.checker.proofs.read_rule.Reads as reads
-use Rattle.checker.proofs.read_rule.Lts as lts
-use Rattle.checker.proofs.read_references.Reads as read-references-reads
-use Rattle.language.proofs.arguments.Reads as arguments-reads
-use Rattle.numbers.proofs.read_from.Reads as read-from-reads
 
 read-from-requires : tie.Need-read-from-requires
 read-from-requires c κs = search needs

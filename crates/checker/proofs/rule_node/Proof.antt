@@ -3,13 +3,6 @@ use Rattle.checker.proofs.RuleNodes.{rule-ready, rule-walks}
 use borrow.Author.Needs.{needs}
 use Rattle.checker.proofs.rule_node.Statement.{statement}
 use Rattle.checker.proofs.rule_node.Tie as tie
-use Rattle.checker.proofs.rule_node.Reads as reads
-use Rattle.checker.proofs.rule_node.Lts as lts
-use Rattle.checker.proofs.answered.Reads as answered-reads
-use Rattle.checker.proofs.given.Reads as given-reads
-use Rattle.checker.proofs.taken.Reads as taken-reads
-use Rattle.language.proofs.arguments.Reads as arguments-reads
-use Rattle.rules.proofs.apply.Reads as apply-reads
 
 taken-requires : tie.Need-taken-requires
 taken-requires c κs = search needs

@@ -3,9 +3,6 @@ use Rattle.checker.proofs.Taking.{took, took-none}
 use borrow.Author.Needs.{needs}
 use Rattle.checker.proofs.taken.Statement.{statement}
 use Rattle.checker.proofs.taken.Tie as tie
-use Rattle.checker.proofs.taken.Reads as reads
-use Rattle.checker.proofs.taken.Lts as lts
-use Rattle.numbers.proofs.read.Reads as read-reads
 
 read-requires : tie.Need-read-requires
 read-requires c κs = search needs

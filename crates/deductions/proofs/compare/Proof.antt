@@ -4,8 +4,6 @@ use Rattle.deductions.proofs.Leaves.{compared-other, compared-same, com
 use borrow.Author.Needs.{needs}
 use Rattle.deductions.proofs.compare.Statement.{statement}
 use Rattle.deductions.proofs.compare.Tie as tie
-use Rattle.deductions.proofs.compare.Reads as reads
-use Rattle.deductions.proofs.compare.Lts as lts
 
 enum-known-v : tie.Need-enum-known-v
 enum-known-v c = search needs

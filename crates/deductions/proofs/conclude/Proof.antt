@@ -3,10 +3,6 @@ use Rattle.deductions.proofs.Leaves.{rule-given, rule-misshapen, rule-m
 use borrow.Author.Needs.{needs}
 use Rattle.deductions.proofs.conclude.Statement.{statement}
 use Rattle.deductions.proofs.conclude.Tie as tie
-use Rattle.deductions.proofs.conclude.Reads as reads
-use Rattle.deductions.proofs.conclude.Lts as lts
-use Rattle.rules.proofs.apply.Reads as apply-reads
-use Rattle.tokens.proofs.rule.Reads as rule-reads
 
 apply-requires : tie.Need-apply-requires
 apply-requires c κs = search needs

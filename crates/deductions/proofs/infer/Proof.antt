@@ -4,11 +4,6 @@ use Rattle.deductions.proofs.Rules.{args-long, conclude-asks, rule-misc
 use borrow.Author.Needs.{needs}
 use Rattle.deductions.proofs.infer.Statement.{statement}
 use Rattle.deductions.proofs.infer.Tie as tie
-use Rattle.deductions.proofs.infer.Reads as reads
-use Rattle.deductions.proofs.infer.Lts as lts
-use Rattle.deductions.proofs.conclude.Reads as conclude-reads
-use Rattle.deductions.proofs.gather.Reads as gather-reads
-use Rattle.language.proofs.arguments.Reads as arguments-reads
 
 arguments-requires : tie.Need-arguments-requires
 arguments-requires c κs = search needs

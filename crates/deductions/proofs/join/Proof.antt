@@ -4,9 +4,6 @@ use Rattle.deductions.proofs.Leaves.{lemma-low, joined-of, joined-none}
 use borrow.Author.Needs.{needs}
 use Rattle.deductions.proofs.join.Statement.{statement}
 use Rattle.deductions.proofs.join.Tie as tie
-use Rattle.deductions.proofs.join.Reads as reads
-use Rattle.deductions.proofs.join.Lts as lts
-use Rattle.words.proofs.put.Reads as put-reads
 
 enum-known-l : tie.Need-enum-known-l
 enum-known-l c = search needs

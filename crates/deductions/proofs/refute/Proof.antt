@@ -5,11 +5,6 @@ use Rattle.deductions.proofs.Leaves.{refuted-false, refuted-other}
 use borrow.Author.Needs.{needs}
 use Rattle.deductions.proofs.refute.Statement.{statement}
 use Rattle.deductions.proofs.refute.Tie as tie
-use Rattle.deductions.proofs.refute.Reads as reads
-use Rattle.deductions.proofs.refute.Lts as lts
-use Rattle.deductions.proofs.tollens.Reads as tollens-reads
-use Rattle.forms.proofs.conditional.Reads as conditional-reads
-use Rattle.forms.proofs.negation.Reads as negation-reads
 
 conditional-requires : tie.Need-conditional-requires
 conditional-requires c κs = search needs

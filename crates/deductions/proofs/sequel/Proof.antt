@@ -2,9 +2,6 @@
 use borrow.Author.Needs.{needs}
 use Rattle.deductions.proofs.sequel.Statement.{statement}
 use Rattle.deductions.proofs.sequel.Tie as tie
-use Rattle.deductions.proofs.sequel.Reads as reads
-use Rattle.deductions.proofs.sequel.Lts as lts
-use Rattle.tokens.proofs.sequence.Reads as sequence-reads
 
 sequence-requires : tie.Need-sequence-requires
 sequence-requires c κs = search needs

@@ -3,10 +3,6 @@ use Rattle.deductions.proofs.Tokens.{tollens-told}
 use borrow.Author.Needs.{needs}
 use Rattle.deductions.proofs.tollens.Statement.{statement}
 use Rattle.deductions.proofs.tollens.Tie as tie
-use Rattle.deductions.proofs.tollens.Reads as reads
-use Rattle.deductions.proofs.tollens.Lts as lts
-use Rattle.tokens.proofs.rule.Reads as rule-reads
-use Rattle.tokens.proofs.sequence.Reads as sequence-reads
 
 sequence-requires : tie.Need-sequence-requires
 sequence-requires c κs = search needs

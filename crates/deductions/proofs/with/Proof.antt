@@ -2,9 +2,6 @@
 use borrow.Author.Needs.{needs}
 use Rattle.deductions.proofs.with.Statement.{statement}
 use Rattle.deductions.proofs.with.Tie as tie
-use Rattle.deductions.proofs.with.Reads as reads
-use Rattle.deductions.proofs.with.Lts as lts
-use Rattle.expressions.proofs.bind_value.Reads as bind-value-reads
 
 bind-value-requires : tie.Need-bind-value-requires
 bind-value-requires c κs = search needs

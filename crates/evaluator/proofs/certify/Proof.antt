@@ -4,9 +4,6 @@ use Rattle.evaluator.proofs.Certifying.{told, certifies}
 use borrow.Author.Needs.{needs}
 use Rattle.evaluator.proofs.certify.Statement.{statement}
 use Rattle.evaluator.proofs.certify.Tie as tie
-use Rattle.evaluator.proofs.certify.Reads as reads
-use Rattle.evaluator.proofs.certify.Lts as lts
-use Rattle.certificates.proofs.write.Reads as write-reads
 
 write-requires : tie.Need-write-requires
 write-requires c κs = search needs

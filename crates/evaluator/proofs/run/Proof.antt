@@ -4,10 +4,6 @@ use Rattle.evaluator.proofs.Running.{run-ends, run-gives, run-stops}
 use borrow.Author.Needs.{needs}
 use Rattle.evaluator.proofs.run.Statement.{statement}
 use Rattle.evaluator.proofs.run.Tie as tie
-use Rattle.evaluator.proofs.run.Reads as reads
-use Rattle.evaluator.proofs.run.Lts as lts
-use Rattle.evaluator.proofs.certify.Reads as certify-reads
-use Rattle.deductions.proofs.deduce.Reads as deduce-reads
 
 deduce-requires : tie.Need-deduce-requires
 deduce-requires c κs = (c .before .before .before .before .before .before .before .before .before .before .before .before .pre .ready, c .before .before .before .before .before .before .before .before .before .before .before .before .pre .deduction)

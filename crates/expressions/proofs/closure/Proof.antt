@@ -2,8 +2,6 @@
 use Rattle.expressions.proofs.Leaves.{closure-method, closure-function}
 use Rattle.expressions.proofs.closure.Statement.{statement}
 use Rattle.expressions.proofs.closure.Tie as tie
-use Rattle.expressions.proofs.closure.Reads as reads
-use Rattle.expressions.proofs.closure.Lts as lts
 
 returns : tie.Need-returns
 returns c = search closure-method

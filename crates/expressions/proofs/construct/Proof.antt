@@ -5,12 +5,6 @@ use Rattle.expressions.proofs.Constructors.{con-miscounted, con-one, co
 use borrow.Author.Needs.{needs}
 use Rattle.expressions.proofs.construct.Statement.{statement}
 use Rattle.expressions.proofs.construct.Tie as tie
-use Rattle.expressions.proofs.construct.Reads as reads
-use Rattle.expressions.proofs.construct.Lts as lts
-use Rattle.bindings.proofs.load.Reads as load-reads
-use Rattle.expressions.proofs.formed.Reads as formed-reads
-use Rattle.expressions.proofs.part.Reads as part-reads
-use Rattle.expressions.proofs.takes.Reads as takes-reads
 
 takes-requires : tie.Need-takes-requires
 takes-requires c κs = search needs

@@ -8,11 +8,6 @@ use Rattle.expressions.proofs.Leaves.{closed-small}
 use borrow.Author.Needs.{needs}
 use Rattle.expressions.proofs.fix.Statement.{statement}
 use Rattle.expressions.proofs.fix.Tie as tie
-use Rattle.expressions.proofs.fix.Reads as reads
-use Rattle.expressions.proofs.fix.Lts as lts
-use Rattle.expressions.proofs.bind_value.Reads as bind-value-reads
-use Rattle.expressions.proofs.closure.Reads as closure-reads
-use Rattle.words.proofs.at.Reads as at-reads
 
 mul-at : tie.Need-mul-at
 mul-at c = search needs

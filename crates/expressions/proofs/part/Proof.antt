@@ -2,8 +2,6 @@
 use borrow.Author.Needs.{needs}
 use Rattle.expressions.proofs.part.Statement.{statement}
 use Rattle.expressions.proofs.part.Tie as tie
-use Rattle.expressions.proofs.part.Reads as reads
-use Rattle.expressions.proofs.part.Lts as lts
 
 enum-known-v : tie.Need-enum-known-v
 enum-known-v c = search needs

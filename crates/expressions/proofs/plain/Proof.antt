@@ -4,12 +4,6 @@ use Rattle.expressions.proofs.Steps.{proposition, variable-is, construc
 use borrow.Author.Needs.{needs}
 use Rattle.expressions.proofs.plain.Statement.{statement}
 use Rattle.expressions.proofs.plain.Tie as tie
-use Rattle.expressions.proofs.plain.Reads as reads
-use Rattle.expressions.proofs.plain.Lts as lts
-use Rattle.expressions.proofs.closure.Reads as closure-reads
-use Rattle.expressions.proofs.fix.Reads as fix-reads
-use Rattle.expressions.proofs.variable.Reads as variable-reads
-use Rattle.words.proofs.at.Reads as at-reads
 
 mul-at : tie.Need-mul-at
 mul-at c = let r = ready-small _ _ _ _ _ _ (c .before .before .pre .0 .2) in omega (arith, r)

@@ -2,8 +2,6 @@
 use Rattle.expressions.proofs.Leaves.{takes-one, takes-two}
 use Rattle.expressions.proofs.takes.Statement.{statement}
 use Rattle.expressions.proofs.takes.Tie as tie
-use Rattle.expressions.proofs.takes.Reads as reads
-use Rattle.expressions.proofs.takes.Lts as lts
 
 returns : tie.Need-returns
 returns c = search takes-one

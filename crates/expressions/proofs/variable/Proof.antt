@@ -3,9 +3,6 @@ use Rattle.expressions.proofs.Leaves.{bound-is, free-is}
 use borrow.Author.Needs.{needs}
 use Rattle.expressions.proofs.variable.Statement.{statement}
 use Rattle.expressions.proofs.variable.Tie as tie
-use Rattle.expressions.proofs.variable.Reads as reads
-use Rattle.expressions.proofs.variable.Lts as lts
-use Rattle.bindings.proofs.lookup.Reads as lookup-reads
 
 lookup-requires : tie.Need-lookup-requires
 lookup-requires c κs = search needs

@@ -6,10 +6,6 @@ use borrow.Author.Needs.{needs}
 use Rattle.forms.proofs.Interning.{Passed, passed-none, passed-hit, passed-more, passed-all}
 use Rattle.forms.proofs.find.Statement.{statement}
 use Rattle.forms.proofs.find.Tie as tie
-use Rattle.forms.proofs.find.Reads as reads
-use Rattle.forms.proofs.find.Lts as lts
-use Rattle.forms.proofs.count.Reads as count-reads
-use Rattle.words.proofs.at.Reads as at-reads
 
 abbrev Inv-loop : tie.InvT-loop
 Inv-loop t n w end i₀ i = Passed w (take n t) i

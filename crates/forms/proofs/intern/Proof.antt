@@ -3,10 +3,6 @@ use Rattle.forms.proofs.Interning.{interned-old, interned-new}
 use borrow.Author.Needs.{needs}
 use Rattle.forms.proofs.intern.Statement.{statement}
 use Rattle.forms.proofs.intern.Tie as tie
-use Rattle.forms.proofs.intern.Reads as reads
-use Rattle.forms.proofs.intern.Lts as lts
-use Rattle.forms.proofs.find.Reads as find-reads
-use Rattle.words.proofs.put.Reads as put-reads
 
 find-requires : tie.Need-find-requires
 find-requires c κs = search needs

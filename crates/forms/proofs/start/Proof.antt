@@ -3,9 +3,6 @@ use mathlib.Core.Path.{refl}
 use borrow.Author.Needs.{needs}
 use Rattle.forms.proofs.start.Statement.{statement}
 use Rattle.forms.proofs.start.Tie as tie
-use Rattle.forms.proofs.start.Reads as reads
-use Rattle.forms.proofs.start.Lts as lts
-use Rattle.words.proofs.put.Reads as put-reads
 
 put-requires : tie.Need-put-requires
 put-requires c κs = search needs

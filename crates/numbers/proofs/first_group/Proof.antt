@@ -4,10 +4,6 @@ use borrow.Author.Tests.{lt-ltb, le-ltb}
 use borrow.Author.Needs.{needs}
 use Rattle.numbers.proofs.first_group.Statement.{statement}
 use Rattle.numbers.proofs.first_group.Tie as tie
-use Rattle.numbers.proofs.first_group.Reads as reads
-use Rattle.numbers.proofs.first_group.Lts as lts
-use Rattle.numbers.proofs.second_group.Reads as second-group-reads
-use Rattle.numbers.proofs.wide.Reads as wide-reads
 
 shared-slice-read-wide : tie.Need-shared-slice-read-wide
 shared-slice-read-wide c = search needs

@@ -3,8 +3,6 @@ use mathlib.Core.Path.{sym}
 use Rattle.numbers.proofs.Groups.{one-byte, two-bytes, three-bytes}
 use Rattle.numbers.proofs.length_of.Statement.{statement}
 use Rattle.numbers.proofs.length_of.Tie as tie
-use Rattle.numbers.proofs.length_of.Reads as reads
-use Rattle.numbers.proofs.length_of.Lts as lts
 
 returns : tie.Need-returns
 returns c = sym (one-byte _ (c .if1 .taken))

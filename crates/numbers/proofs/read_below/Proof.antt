@@ -4,9 +4,6 @@ use borrow.Author.Tests.{lt-ltb, le-ltb}
 use borrow.Author.Needs.{needs}
 use Rattle.numbers.proofs.read_below.Statement.{statement}
 use Rattle.numbers.proofs.read_below.Tie as tie
-use Rattle.numbers.proofs.read_below.Reads as reads
-use Rattle.numbers.proofs.read_below.Lts as lts
-use Rattle.numbers.proofs.read.Reads as read-reads
 
 read-requires : tie.Need-read-requires
 read-requires c κs = search needs

@@ -5,9 +5,6 @@ use borrow.Author.Tests.{lt-leb, le-leb}
 use borrow.Author.Needs.{needs}
 use Rattle.numbers.proofs.read_from.Statement.{statement}
 use Rattle.numbers.proofs.read_from.Tie as tie
-use Rattle.numbers.proofs.read_from.Reads as reads
-use Rattle.numbers.proofs.read_from.Lts as lts
-use Rattle.numbers.proofs.read.Reads as read-reads
 
 read-requires : tie.Need-read-requires
 read-requires c κs = search needs

@@ -5,9 +5,6 @@ use borrow.Author.Tests.{lt-ltb, le-ltb}
 use borrow.Author.Needs.{needs}
 use Rattle.numbers.proofs.third_group.Statement.{statement}
 use Rattle.numbers.proofs.third_group.Tie as tie
-use Rattle.numbers.proofs.third_group.Reads as reads
-use Rattle.numbers.proofs.third_group.Lts as lts
-use Rattle.numbers.proofs.wide.Reads as wide-reads
 
 add-i : tie.Need-add-i
 add-i c = search needs

@@ -8,8 +8,6 @@ use Rattle.numbers.proofs.Groups.{two-groups, three-groups, one-byte, t
 use borrow.Author.Needs.{needs}
 use Rattle.numbers.proofs.write.Statement.{statement}
 use Rattle.numbers.proofs.write.Tie as tie
-use Rattle.numbers.proofs.write.Reads as reads
-use Rattle.numbers.proofs.write.Lts as lts
 
 cast-out : tie.Need-cast-out
 cast-out c = search needs

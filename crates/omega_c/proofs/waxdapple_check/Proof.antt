@@ -4,9 +4,6 @@ use Rattle.omega_c.specs.Answers.{checked}
 use borrow.Author.Needs.{needs}
 use Rattle.omega_c.proofs.waxdapple_check.Statement.{statement}
 use Rattle.omega_c.proofs.waxdapple_check.Tie as tie
-use Rattle.omega_c.proofs.waxdapple_check.Reads as reads
-use Rattle.omega_c.proofs.waxdapple_check.Lts as lts
-use Rattle.checker.proofs.check.Reads as check-reads
 
 check-requires : tie.Need-check-requires
 check-requires c κs = search needs

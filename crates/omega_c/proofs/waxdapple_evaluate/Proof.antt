@@ -4,9 +4,6 @@ use Rattle.omega_c.specs.Answers.{evaluated}
 use borrow.Author.Needs.{needs}
 use Rattle.omega_c.proofs.waxdapple_evaluate.Statement.{statement}
 use Rattle.omega_c.proofs.waxdapple_evaluate.Tie as tie
-use Rattle.omega_c.proofs.waxdapple_evaluate.Reads as reads
-use Rattle.omega_c.proofs.waxdapple_evaluate.Lts as lts
-use Rattle.evaluator.proofs.evaluate.Reads as evaluate-reads
 
 evaluate-requires : tie.Need-evaluate-requires
 evaluate-requires c κs = search needs

@@ -3,8 +3,6 @@ use borrow.Author.Tests.{eq-eqb, ne-eqb}
 use Rattle.patterns.specs.Fitting.{same-number}
 use Rattle.patterns.proofs.exact.Statement.{statement}
 use Rattle.patterns.proofs.exact.Tie as tie
-use Rattle.patterns.proofs.exact.Reads as reads
-use Rattle.patterns.proofs.exact.Lts as lts
 
 returns : tie.Need-returns
 unfolding same-number

@@ -3,8 +3,6 @@ use Rattle.patterns.proofs.Extending.{with-0, with-1, with-2, with-3}
 use borrow.Author.Needs.{needs}
 use Rattle.patterns.proofs.extended.Statement.{statement}
 use Rattle.patterns.proofs.extended.Tie as tie
-use Rattle.patterns.proofs.extended.Reads as reads
-use Rattle.patterns.proofs.extended.Lts as lts
 
 add-n : tie.Need-add-n
 add-n c = search needs

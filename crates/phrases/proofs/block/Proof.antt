@@ -4,10 +4,6 @@ use Rattle.phrases.proofs.OperandRuns.{one-begun, one-taken}
 use borrow.Author.Needs.{needs}
 use Rattle.phrases.proofs.block.Statement.{statement}
 use Rattle.phrases.proofs.block.Tie as tie
-use Rattle.phrases.proofs.block.Reads as reads
-use Rattle.phrases.proofs.block.Lts as lts
-use Rattle.phrases.proofs.several.Reads as several-reads
-use Rattle.words.proofs.put.Reads as put-reads
 
 put-requires : tie.Need-put-requires
 put-requires c κs = search needs

@@ -6,11 +6,6 @@ use Rattle.phrases.proofs.OperandRuns.{operand-fits, two-begun, two-tak
 use borrow.Author.Needs.{needs}
 use Rattle.phrases.proofs.call.Statement.{statement}
 use Rattle.phrases.proofs.call.Tie as tie
-use Rattle.phrases.proofs.call.Reads as reads
-use Rattle.phrases.proofs.call.Lts as lts
-use Rattle.phrases.proofs.operand.Reads as operand-reads
-use Rattle.phrases.proofs.several.Reads as several-reads
-use Rattle.words.proofs.put.Reads as put-reads
 
 operand-requires : tie.Need-operand-requires
 operand-requires c κs = search needs

@@ -6,11 +6,6 @@ use Rattle.phrases.proofs.OperandRuns.{operand-fits, two-begun, two-tak
 use borrow.Author.Needs.{needs}
 use Rattle.phrases.proofs.cases.Statement.{statement}
 use Rattle.phrases.proofs.cases.Tie as tie
-use Rattle.phrases.proofs.cases.Reads as reads
-use Rattle.phrases.proofs.cases.Lts as lts
-use Rattle.phrases.proofs.clauses.Reads as clauses-reads
-use Rattle.phrases.proofs.operand.Reads as operand-reads
-use Rattle.words.proofs.put.Reads as put-reads
 
 operand-requires : tie.Need-operand-requires
 operand-requires c κs = search needs

@@ -9,11 +9,6 @@ use Rattle.phrases.proofs.OperandRuns.{operand-fits}
 use borrow.Author.Needs.{needs}
 use Rattle.phrases.proofs.clause.Statement.{statement}
 use Rattle.phrases.proofs.clause.Tie as tie
-use Rattle.phrases.proofs.clause.Reads as reads
-use Rattle.phrases.proofs.clause.Lts as lts
-use Rattle.numbers.proofs.read_below.Reads as read-below-reads
-use Rattle.phrases.proofs.operand.Reads as operand-reads
-use Rattle.words.proofs.put.Reads as put-reads
 
 read-below-requires : tie.Need-read-below-requires
 read-below-requires c κs = search needs

@@ -7,9 +7,6 @@ use Rattle.phrases.proofs.OperandRuns.{clauseRun, At, at-start, at-end,
 use borrow.Author.Needs.{needs}
 use Rattle.phrases.proofs.clause_list.Statement.{statement}
 use Rattle.phrases.proofs.clause_list.Tie as tie
-use Rattle.phrases.proofs.clause_list.Reads as reads
-use Rattle.phrases.proofs.clause_list.Lts as lts
-use Rattle.phrases.proofs.clause.Reads as clause-reads
 
 abbrev Inv-loop : tie.InvT-loop
 Inv-loop row₀ phrases s n patterns from count body at i₀ p₀ row i p = At (clauseRun s patterns (operandAt s (rowsIn 12 n phrases) body)) count at row₀ from row i p

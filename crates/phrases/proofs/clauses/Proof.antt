@@ -8,11 +8,6 @@ use Rattle.phrases.proofs.OperandRuns.{clauses-read}
 use borrow.Author.Needs.{needs}
 use Rattle.phrases.proofs.clauses.Statement.{statement}
 use Rattle.phrases.proofs.clauses.Tie as tie
-use Rattle.phrases.proofs.clauses.Reads as reads
-use Rattle.phrases.proofs.clauses.Lts as lts
-use Rattle.numbers.proofs.read_from.Reads as read-from-reads
-use Rattle.phrases.proofs.clause_list.Reads as clause-list-reads
-use Rattle.words.proofs.put.Reads as put-reads
 
 read-from-requires : tie.Need-read-from-requires
 read-from-requires c κs = search needs

@@ -9,10 +9,6 @@ use Rattle.records.proofs.Tables.{rows-long}
 use borrow.Author.Needs.{needs}
 use Rattle.phrases.proofs.deduction.Statement.{statement}
 use Rattle.phrases.proofs.deduction.Tie as tie
-use Rattle.phrases.proofs.deduction.Reads as reads
-use Rattle.phrases.proofs.deduction.Lts as lts
-use Rattle.numbers.proofs.read_below.Reads as read-below-reads
-use Rattle.phrases.proofs.kind_of.Reads as kind-of-reads
 
 read-below-requires : tie.Need-read-below-requires
 read-below-requires c κs = search needs

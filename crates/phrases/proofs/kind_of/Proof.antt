@@ -5,9 +5,6 @@ use Rattle.records.proofs.Tables.{cell-first}
 use borrow.Author.Needs.{needs}
 use Rattle.phrases.proofs.kind_of.Statement.{statement}
 use Rattle.phrases.proofs.kind_of.Tie as tie
-use Rattle.phrases.proofs.kind_of.Reads as reads
-use Rattle.phrases.proofs.kind_of.Lts as lts
-use Rattle.words.proofs.at.Reads as at-reads
 
 mul-at : tie.Need-mul-at
 mul-at c = search needs

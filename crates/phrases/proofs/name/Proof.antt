@@ -6,10 +6,6 @@ use Rattle.records.proofs.References.{gotten-got, gotten-no, narrow-got}
 use borrow.Author.Needs.{needs}
 use Rattle.phrases.proofs.name.Statement.{statement}
 use Rattle.phrases.proofs.name.Tie as tie
-use Rattle.phrases.proofs.name.Reads as reads
-use Rattle.phrases.proofs.name.Lts as lts
-use Rattle.records.proofs.names.name_ref.Reads as name-ref-reads
-use Rattle.words.proofs.put.Reads as put-reads
 
 name-ref-requires : tie.Need-name-ref-requires
 name-ref-requires c κs = search needs

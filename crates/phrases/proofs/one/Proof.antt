@@ -7,10 +7,6 @@ use Rattle.phrases.proofs.OperandRuns.{operand-fits}
 use borrow.Author.Needs.{needs}
 use Rattle.phrases.proofs.one.Statement.{statement}
 use Rattle.phrases.proofs.one.Tie as tie
-use Rattle.phrases.proofs.one.Reads as reads
-use Rattle.phrases.proofs.one.Lts as lts
-use Rattle.phrases.proofs.operand.Reads as operand-reads
-use Rattle.words.proofs.put.Reads as put-reads
 
 operand-requires : tie.Need-operand-requires
 operand-requires c κs = search needs

@@ -5,13 +5,6 @@ use Rattle.records.proofs.Tables.{rows-long}
 use borrow.Author.Needs.{needs}
 use Rattle.phrases.proofs.operand.Statement.{statement}
 use Rattle.phrases.proofs.operand.Tie as tie
-use Rattle.phrases.proofs.operand.Reads as reads
-use Rattle.phrases.proofs.operand.Lts as lts
-use Rattle.numbers.proofs.read_below.Reads as read-below-reads
-use Rattle.numbers.proofs.read_from.Reads as read-from-reads
-use Rattle.phrases.proofs.abstraction.Reads as abstraction-reads
-use Rattle.phrases.proofs.deduction.Reads as deduction-reads
-use Rattle.phrases.proofs.expression.Reads as expression-reads
 
 enum-told : tie.Need-enum-told
 enum-told c = search needs

@@ -7,10 +7,6 @@ use Rattle.phrases.proofs.OperandRuns.{operandRun, operand-fits, At, at
 use borrow.Author.Needs.{needs}
 use Rattle.phrases.proofs.operands.Statement.{statement}
 use Rattle.phrases.proofs.operands.Tie as tie
-use Rattle.phrases.proofs.operands.Reads as reads
-use Rattle.phrases.proofs.operands.Lts as lts
-use Rattle.phrases.proofs.operand.Reads as operand-reads
-use Rattle.words.proofs.put.Reads as put-reads
 
 abbrev Inv-loop : tie.InvT-loop
 Inv-loop row₀ phrases s n from count what at i₀ p₀ row i p = At (operandRun s (rowsIn 12 n phrases) what) count at row₀ from row i p

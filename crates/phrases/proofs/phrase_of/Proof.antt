@@ -3,15 +3,6 @@ use Rattle.phrases.specs.Shapes.{shapedRow}
 use borrow.Author.Needs.{needs}
 use Rattle.phrases.proofs.phrase_of.Statement.{statement}
 use Rattle.phrases.proofs.phrase_of.Tie as tie
-use Rattle.phrases.proofs.phrase_of.Reads as reads
-use Rattle.phrases.proofs.phrase_of.Lts as lts
-use Rattle.phrases.proofs.block.Reads as block-reads
-use Rattle.phrases.proofs.call.Reads as call-reads
-use Rattle.phrases.proofs.cases.Reads as cases-reads
-use Rattle.phrases.proofs.name.Reads as name-reads
-use Rattle.phrases.proofs.one.Reads as one-reads
-use Rattle.phrases.proofs.two.Reads as two-reads
-use Rattle.phrases.proofs.shape.shape_of.Reads as shape-of-reads
 
 shape-of-requires : tie.Need-shape-of-requires
 shape-of-requires c κs = search needs

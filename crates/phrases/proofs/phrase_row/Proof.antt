@@ -6,10 +6,6 @@ use Rattle.phrases.proofs.PhraseKinds.{row-shaped, row-none}
 use borrow.Author.Needs.{needs}
 use Rattle.phrases.proofs.phrase_row.Statement.{statement}
 use Rattle.phrases.proofs.phrase_row.Tie as tie
-use Rattle.phrases.proofs.phrase_row.Reads as reads
-use Rattle.phrases.proofs.phrase_row.Lts as lts
-use Rattle.numbers.proofs.read.Reads as read-reads
-use Rattle.phrases.proofs.phrase_of.Reads as phrase-of-reads
 
 read-requires : tie.Need-read-requires
 read-requires c κs = search needs

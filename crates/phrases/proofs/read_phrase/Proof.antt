@@ -3,10 +3,6 @@ use Rattle.records.proofs.Tables.{put-refused, put-row}
 use borrow.Author.Needs.{needs}
 use Rattle.phrases.proofs.read_phrase.Statement.{statement}
 use Rattle.phrases.proofs.read_phrase.Tie as tie
-use Rattle.phrases.proofs.read_phrase.Reads as reads
-use Rattle.phrases.proofs.read_phrase.Lts as lts
-use Rattle.phrases.proofs.phrase_row.Reads as phrase-row-reads
-use Rattle.records.proofs.rows.lay.Reads as lay-reads
 
 slice-aggregate-phrase-row : tie.Need-slice-aggregate-phrase-row
 slice-aggregate-phrase-row c = search needs

@@ -8,11 +8,6 @@ use Rattle.phrases.proofs.OperandRuns.{several-read}
 use borrow.Author.Needs.{needs}
 use Rattle.phrases.proofs.several.Statement.{statement}
 use Rattle.phrases.proofs.several.Tie as tie
-use Rattle.phrases.proofs.several.Reads as reads
-use Rattle.phrases.proofs.several.Lts as lts
-use Rattle.numbers.proofs.read_from.Reads as read-from-reads
-use Rattle.phrases.proofs.operands.Reads as operands-reads
-use Rattle.words.proofs.put.Reads as put-reads
 
 read-from-requires : tie.Need-read-from-requires
 read-from-requires c κs = search needs

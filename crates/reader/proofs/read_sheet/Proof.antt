@@ -3,10 +3,6 @@ use Rattle.reader.proofs.Stages.{names-fit, whole-refused, whole-read}
 use borrow.Author.Needs.{needs}
 use Rattle.reader.proofs.read_sheet.Statement.{statement}
 use Rattle.reader.proofs.read_sheet.Tie as tie
-use Rattle.reader.proofs.read_sheet.Reads as reads
-use Rattle.reader.proofs.read_sheet.Lts as lts
-use Rattle.reader.proofs.parts.propositions.Reads as propositions-reads
-use Rattle.reader.proofs.read_patterns.Reads as read-patterns-reads
 
 propositions-requires : tie.Need-propositions-requires
 propositions-requires c κs = search needs

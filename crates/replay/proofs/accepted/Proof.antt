@@ -5,11 +5,6 @@ use lib.Seq.{length-take-le}
 use borrow.Author.Needs.{needs}
 use Rattle.replay.proofs.accepted.Statement.{statement}
 use Rattle.replay.proofs.accepted.Tie as tie
-use Rattle.replay.proofs.accepted.Reads as reads
-use Rattle.replay.proofs.accepted.Lts as lts
-use Rattle.io.proofs.write_all.Reads as write-all-reads
-use Rattle.replay.proofs.number.Reads as number-reads
-use Rattle.requests.proofs.write_hex.Reads as write-hex-reads
 
 slice-aggregate-write-hex : tie.Need-slice-aggregate-write-hex
 slice-aggregate-write-hex c = search needs
@@ -21,25 +16,25 @@ slice-aggregate-write-all : tie.Need-slice-aggregate-write-all
 slice-aggregate-write-all c = search needs
 
 write-all-requires : tie.Need-write-all-requires
-write-all-requires c κs = search needs
+write-all-requires c κs = tt
 
 number-requires : tie.Need-number-requires
-number-requires c κs = search needs
+number-requires c κs = tt
 
 number-requires-2 : tie.Need-number-requires-2
-number-requires-2 c κs = search needs
+number-requires-2 c κs = tt
 
 number-requires-3 : tie.Need-number-requires-3
-number-requires-3 c κs = search needs
+number-requires-3 c κs = tt
 
 number-requires-4 : tie.Need-number-requires-4
-number-requires-4 c κs = search needs
+number-requires-4 c κs = tt
 
 slice-aggregate-write-all-2 : tie.Need-slice-aggregate-write-all-2
 slice-aggregate-write-all-2 c = search needs
 
 write-all-requires-2 : tie.Need-write-all-requires-2
-write-all-requires-2 c κs = search needs
+write-all-requires-2 c κs = tt
 
 mul-text : tie.Need-mul-text
 mul-text c = search needs
@@ -54,16 +49,16 @@ slice-aggregate-write-all-3 c =
     sym (length-take-le _ _ (omega arith))
 
 write-all-requires-3 : tie.Need-write-all-requires-3
-write-all-requires-3 c κs = search needs
+write-all-requires-3 c κs = tt
 
 slice-aggregate-write-all-4 : tie.Need-slice-aggregate-write-all-4
 slice-aggregate-write-all-4 c = search needs
 
 write-all-requires-4 : tie.Need-write-all-requires-4
-write-all-requires-4 c κs = search needs
+write-all-requires-4 c κs = tt
 
 returns : tie.Need-returns
-returns c = search needs
+returns c = tt
 
 pub accepted-spec : {M : Type 1} → statement M
 accepted-spec =

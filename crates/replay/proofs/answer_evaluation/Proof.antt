@@ -6,9 +6,6 @@ use Rattle.replay.proofs.Prefixes.{taken-few}
 use borrow.Author.Needs.{needs}
 use Rattle.replay.proofs.answer_evaluation.Statement.{statement}
 use Rattle.replay.proofs.answer_evaluation.Tie as tie
-use Rattle.replay.proofs.answer_evaluation.Reads as reads
-use Rattle.replay.proofs.answer_evaluation.Lts as lts
-use Rattle.replay.proofs.lend_tokens.Reads as lend-tokens-reads
 
 array-borrow-prefix-out : tie.Need-array-borrow-prefix-out
 array-borrow-prefix-out c = search needs
@@ -24,7 +21,7 @@ lend-tokens-requires c κs =
     taken-few (c .before .before .before .args .room) 65536 _ (omega arith)
 
 returns : tie.Need-returns
-returns c = search needs
+returns c = tt
 
 slice-aggregate-lend-tokens-2 : tie.Need-slice-aggregate-lend-tokens-2
 slice-aggregate-lend-tokens-2 c = search needs
@@ -33,7 +30,7 @@ lend-tokens-requires-2 : tie.Need-lend-tokens-requires-2
 lend-tokens-requires-2 c κs = search needs
 
 returns-2 : tie.Need-returns-2
-returns-2 c = search needs
+returns-2 c = tt
 
 pub answer-evaluation-spec : {M : Type 1} → statement M
 answer-evaluation-spec =

@@ -5,9 +5,6 @@ use lib.ListN.{length}
 use borrow.Author.Needs.{needs}
 use Rattle.replay.proofs.answer_values.Statement.{statement}
 use Rattle.replay.proofs.answer_values.Tie as tie
-use Rattle.replay.proofs.answer_values.Reads as reads
-use Rattle.replay.proofs.answer_values.Lts as lts
-use Rattle.replay.proofs.answer_phrase.Reads as answer-phrase-reads
 
 abbrev Inv-loop : tie.InvT-loop
 Inv-loop sheet names₀ forms₀ patterns₀ phrases₀ base₀ binds₀ k₀ names forms patterns phrases base binds k =
@@ -51,7 +48,7 @@ loop-again : tie.Need-loop-again Inv-loop μ-loop
 loop-again c = search needs
 
 returns : tie.Need-returns Inv-loop μ-loop
-returns c = search needs
+returns c = tt
 
 pub answer-values-spec : {M : Type 1} → statement M
 answer-values-spec =

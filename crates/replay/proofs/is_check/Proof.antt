@@ -8,13 +8,13 @@ use Rattle.replay.proofs.is_check.Statement.{statement}
 use Rattle.replay.proofs.is_check.Tie as tie
 
 field-end-requires : tie.Need-field-end-requires
-field-end-requires c κs = search needs
+field-end-requires c κs = tt
 
 slice-aggregate-read-hex : tie.Need-slice-aggregate-read-hex
 slice-aggregate-read-hex c = search needs
 
 read-hex-requires : tie.Need-read-hex-requires
-read-hex-requires c κs = search needs
+read-hex-requires c κs = tt
 
 enum-known-n : tie.Need-enum-known-n
 enum-known-n c = search needs
@@ -35,19 +35,19 @@ add-is-certificate : tie.Need-add-is-certificate
 add-is-certificate c = search needs
 
 is-certificate-requires : tie.Need-is-certificate-requires
-is-certificate-requires c κs = search needs
+is-certificate-requires c κs = tt
 
 enum-told : tie.Need-enum-told
 enum-told c = search needs
 
 returns : tie.Need-returns
-returns c = search needs
+returns c = tt
 
 returns-2 : tie.Need-returns-2
-returns-2 c = search needs
+returns-2 c = tt
 
 returns-3 : tie.Need-returns-3
-returns-3 c = search needs
+returns-3 c = tt
 
 pub is-check-spec : {M : Type 1} → statement M
 is-check-spec =

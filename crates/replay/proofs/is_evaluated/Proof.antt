@@ -6,23 +6,18 @@ use Rattle.requests.proofs.Decoding.{bytes-fit}
 use borrow.Author.Needs.{needs}
 use Rattle.replay.proofs.is_evaluated.Statement.{statement}
 use Rattle.replay.proofs.is_evaluated.Tie as tie
-use Rattle.replay.proofs.is_evaluated.Reads as reads
-use Rattle.replay.proofs.is_evaluated.Lts as lts
-use Rattle.replay.proofs.answer_evaluation.Reads as answer-evaluation-reads
-use Rattle.requests.proofs.field_end.Reads as field-end-reads
-use Rattle.requests.proofs.read_hex.Reads as read-hex-reads
 
 field-end-requires : tie.Need-field-end-requires
-field-end-requires c κs = search needs
+field-end-requires c κs = tt
 
 returns : tie.Need-returns
-returns c = search needs
+returns c = tt
 
 slice-aggregate-read-hex : tie.Need-slice-aggregate-read-hex
 slice-aggregate-read-hex c = search needs
 
 read-hex-requires : tie.Need-read-hex-requires
-read-hex-requires c κs = search needs
+read-hex-requires c κs = tt
 
 enum-known-n : tie.Need-enum-known-n
 enum-known-n c = search needs
@@ -40,16 +35,16 @@ slice-aggregate-answer-evaluation c =
     sym (length-take-le _ _ (omega arith))
 
 answer-evaluation-requires : tie.Need-answer-evaluation-requires
-answer-evaluation-requires c κs = search needs
+answer-evaluation-requires c κs = tt
 
 enum-told : tie.Need-enum-told
 enum-told c = search needs
 
 returns-2 : tie.Need-returns-2
-returns-2 c = search needs
+returns-2 c = tt
 
 returns-3 : tie.Need-returns-3
-returns-3 c = search needs
+returns-3 c = tt
 
 pub is-evaluated-spec : {M : Type 1} → statement M
 is-evaluated-spec =

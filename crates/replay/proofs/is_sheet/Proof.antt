@@ -8,16 +8,16 @@ use Rattle.replay.proofs.is_sheet.Statement.{statement}
 use Rattle.replay.proofs.is_sheet.Tie as tie
 
 field-end-requires : tie.Need-field-end-requires
-field-end-requires c κs = search needs
+field-end-requires c κs = tt
 
 returns : tie.Need-returns
-returns c = search needs
+returns c = tt
 
 slice-aggregate-read-hex : tie.Need-slice-aggregate-read-hex
 slice-aggregate-read-hex c = search needs
 
 read-hex-requires : tie.Need-read-hex-requires
-read-hex-requires c κs = search needs
+read-hex-requires c κs = tt
 
 enum-known-n : tie.Need-enum-known-n
 enum-known-n c = search needs
@@ -35,16 +35,16 @@ slice-aggregate-answer-either c =
     sym (length-take-le _ _ (omega arith))
 
 answer-either-requires : tie.Need-answer-either-requires
-answer-either-requires c κs = search needs
+answer-either-requires c κs = tt
 
 enum-told : tie.Need-enum-told
 enum-told c = search needs
 
 returns-2 : tie.Need-returns-2
-returns-2 c = search needs
+returns-2 c = tt
 
 returns-3 : tie.Need-returns-3
-returns-3 c = search needs
+returns-3 c = tt
 
 pub is-sheet-spec : {M : Type 1} → statement M
 is-sheet-spec =

@@ -21,7 +21,7 @@ same-length : tie.Need-same-length
 same-length c = search needs
 
 returns : tie.Need-returns
-returns c = search needs
+returns c = tt
 
 slice-aggregate-evaluate-into-2 : tie.Need-slice-aggregate-evaluate-into-2
 slice-aggregate-evaluate-into-2 c = search needs
@@ -33,7 +33,7 @@ same-length-2 : tie.Need-same-length-2
 same-length-2 c = search needs
 
 returns-2 : tie.Need-returns-2
-returns-2 c = search needs
+returns-2 c = tt
 
 pub lend-tokens-spec : {M : Type 1} → statement M
 lend-tokens-spec =

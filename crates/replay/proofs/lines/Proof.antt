@@ -19,7 +19,7 @@ shared-slice-read-added : tie.Need-shared-slice-read-added Inv-loop μ-loop
 shared-slice-read-added c = search needs
 
 added-requires : tie.Need-added-requires Inv-loop μ-loop
-added-requires c κs = search needs
+added-requires c κs = tt
 
 add-i : tie.Need-add-i Inv-loop μ-loop
 add-i c = search needs
@@ -34,7 +34,7 @@ same-length : tie.Need-same-length Inv-loop μ-loop
 same-length c = search needs
 
 returns : tie.Need-returns Inv-loop μ-loop
-returns c = search needs
+returns c = tt
 
 pub lines-spec : {M : Type 1} → statement M
 lines-spec =

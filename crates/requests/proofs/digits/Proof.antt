@@ -7,10 +7,6 @@ use Rattle.requests.specs.Fields.{nibble}
 use Rattle.requests.proofs.Counting.{At, at-start, at-no-digit, at-large, at-digit, at-end}
 use Rattle.requests.proofs.digits.Statement.{statement}
 use Rattle.requests.proofs.digits.Tie as tie
-use Rattle.requests.proofs.digits.Reads as reads
-use Rattle.requests.proofs.digits.Lts as lts
-use Rattle.requests.proofs.character.Reads as character-reads
-use Rattle.requests.proofs.digit.Reads as digit-reads
 
 abbrev Inv-loop : tie.InvT-loop
 Inv-loop line from to i₀ v₀ i v = At line from to i v

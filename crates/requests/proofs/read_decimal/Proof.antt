@@ -4,9 +4,6 @@ use Rattle.requests.proofs.Counting.{decimal-some, decimal-none}
 use borrow.Author.Needs.{needs}
 use Rattle.requests.proofs.read_decimal.Statement.{statement}
 use Rattle.requests.proofs.read_decimal.Tie as tie
-use Rattle.requests.proofs.read_decimal.Reads as reads
-use Rattle.requests.proofs.read_decimal.Lts as lts
-use Rattle.requests.proofs.digits.Reads as digits-reads
 
 digits-requires : tie.Need-digits-requires
 digits-requires c κs = search needs

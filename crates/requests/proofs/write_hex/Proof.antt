@@ -6,10 +6,6 @@ use borrow.Author.Needs.{needs, below-set}
 use Rattle.requests.proofs.Hexed.{At, at-start, at-byte, at-end}
 use Rattle.requests.proofs.write_hex.Statement.{statement}
 use Rattle.requests.proofs.write_hex.Tie as tie
-use Rattle.requests.proofs.write_hex.Reads as reads
-use Rattle.requests.proofs.write_hex.Lts as lts
-use Rattle.requests.proofs.wide.Reads as wide-reads
-use Rattle.requests.proofs.written.Reads as written-reads
 
 abbrev Inv-loop : tie.InvT-loop
 Inv-loop out₀ s i₀ at₀ out i at = At s out₀ out i at

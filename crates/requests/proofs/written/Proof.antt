@@ -6,8 +6,6 @@ use borrow.Author.Tests.{lt-ltb, le-ltb}
 use borrow.Author.Needs.{needs}
 use Rattle.requests.proofs.written.Statement.{statement}
 use Rattle.requests.proofs.written.Tie as tie
-use Rattle.requests.proofs.written.Reads as reads
-use Rattle.requests.proofs.written.Lts as lts
 
 add-result : tie.Need-add-result
 add-result c = search needs

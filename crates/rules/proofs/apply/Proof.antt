@@ -4,11 +4,6 @@ use Rattle.rules.proofs.Applies.{safe, new-fits, ruling-unfit, ruling-k
 use borrow.Author.Needs.{needs}
 use Rattle.rules.proofs.apply.Statement.{statement}
 use Rattle.rules.proofs.apply.Tie as tie
-use Rattle.rules.proofs.apply.Reads as reads
-use Rattle.rules.proofs.apply.Lts as lts
-use Rattle.forms.proofs.intern.Reads as intern-reads
-use Rattle.rules.proofs.conclude.Reads as conclude-reads
-use Rattle.rules.proofs.grounded.Reads as grounded-reads
 
 conclude-requires : tie.Need-conclude-requires
 conclude-requires c κs = safe _ _ _ _ (c .before .before .before .args .rule) _ _ _ (c .before .before .before .pre)

@@ -5,10 +5,6 @@ use Rattle.rules.proofs.Tests.{and-on, and-off}
 use borrow.Author.Needs.{needs}
 use Rattle.rules.proofs.grounded.Statement.{statement}
 use Rattle.rules.proofs.grounded.Tie as tie
-use Rattle.rules.proofs.grounded.Reads as reads
-use Rattle.rules.proofs.grounded.Lts as lts
-use Rattle.rules.proofs.met.Reads as met-reads
-use Rattle.rules.proofs.premises_of.Reads as premises-of-reads
 
 premises-of-requires : tie.Need-premises-of-requires
 premises-of-requires c κs = search needs

@@ -5,10 +5,6 @@ use native.Mathlib.Omega.{arith}
 use borrow.Author.Needs.{needs}
 use Rattle.tokens.proofs.rule.Statement.{statement}
 use Rattle.tokens.proofs.rule.Tie as tie
-use Rattle.tokens.proofs.rule.Reads as reads
-use Rattle.tokens.proofs.rule.Lts as lts
-use Rattle.words.proofs.put.Reads as put-reads
-use Rattle.words.proofs.put4.Reads as put4-reads
 
 put4-requires : tie.Need-put4-requires
 put4-requires c κs = search needs

@@ -4,13 +4,9 @@ use lib.Seq.{length-take-le}
 use borrow.Author.Needs.{needs}
 use Rattle.waxdapple.proofs.row.Statement.{statement}
 use Rattle.waxdapple.proofs.row.Tie as tie
-use Rattle.waxdapple.proofs.row.Reads as reads
-use Rattle.waxdapple.proofs.row.Lts as lts
-use Rattle.waxdapple.proofs.say.Reads as say-reads
-use Rattle.wording.proofs.at_phrase.Reads as at-phrase-reads
 
 returns : tie.Need-returns
-returns c = search needs
+returns c = tt
 
 mul-from : tie.Need-mul-from
 mul-from c = search needs
@@ -37,19 +33,19 @@ slice-aggregate-at-phrase-2 : tie.Need-slice-aggregate-at-phrase-2
 slice-aggregate-at-phrase-2 c = sym (length-take-le _ _ (c .before .before .before .before .if1 .left))
 
 at-phrase-requires : tie.Need-at-phrase-requires
-at-phrase-requires c κs = search needs
+at-phrase-requires c κs = tt
 
 slice-aggregate-say : tie.Need-slice-aggregate-say
 slice-aggregate-say c = search needs
 
 say-requires : tie.Need-say-requires
-say-requires c κs = search needs
+say-requires c κs = tt
 
 returns-2 : tie.Need-returns-2
-returns-2 c = search needs
+returns-2 c = tt
 
 returns-3 : tie.Need-returns-3
-returns-3 c = search needs
+returns-3 c = tt
 
 pub row-spec : {M : Type 1} → statement M
 row-spec =

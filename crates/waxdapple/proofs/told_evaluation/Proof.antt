@@ -4,13 +4,6 @@ use lib.Seq.{length-take-le}
 use borrow.Author.Needs.{needs}
 use Rattle.waxdapple.proofs.told_evaluation.Statement.{statement}
 use Rattle.waxdapple.proofs.told_evaluation.Tie as tie
-use Rattle.waxdapple.proofs.told_evaluation.Reads as reads
-use Rattle.waxdapple.proofs.told_evaluation.Lts as lts
-use Rattle.waxdapple.proofs.given.Reads as given-reads
-use Rattle.waxdapple.proofs.in_phrase.Reads as in-phrase-reads
-use Rattle.waxdapple.proofs.say.Reads as say-reads
-use Rattle.wording.proofs.accepted.Reads as accepted-reads
-use Rattle.wording.proofs.fails.Reads as fails-reads
 
 enum-known-evaluated : tie.Need-enum-known-evaluated
 enum-known-evaluated c = search needs
@@ -19,19 +12,19 @@ slice-aggregate-accepted : tie.Need-slice-aggregate-accepted
 slice-aggregate-accepted c = search needs
 
 accepted-requires : tie.Need-accepted-requires
-accepted-requires c κs = search needs
+accepted-requires c κs = tt
 
 slice-aggregate-say : tie.Need-slice-aggregate-say
 slice-aggregate-say c = search needs
 
 say-requires : tie.Need-say-requires
-say-requires c κs = search needs
+say-requires c κs = tt
 
 slice-aggregate-given : tie.Need-slice-aggregate-given
 slice-aggregate-given c = sym (length-take-le _ _ (c .before .if1 .taken))
 
 given-requires : tie.Need-given-requires
-given-requires c κs = search needs
+given-requires c κs = tt
 
 enum-known-evaluated-2 : tie.Need-enum-known-evaluated-2
 enum-known-evaluated-2 c = search needs
@@ -40,25 +33,25 @@ slice-aggregate-fails : tie.Need-slice-aggregate-fails
 slice-aggregate-fails c = search needs
 
 fails-requires : tie.Need-fails-requires
-fails-requires c κs = search needs
+fails-requires c κs = tt
 
 slice-aggregate-say-2 : tie.Need-slice-aggregate-say-2
 slice-aggregate-say-2 c = search needs
 
 say-requires-2 : tie.Need-say-requires-2
-say-requires-2 c κs = search needs
+say-requires-2 c κs = tt
 
 in-phrase-requires : tie.Need-in-phrase-requires
-in-phrase-requires c κs = search needs
+in-phrase-requires c κs = tt
 
 returns : tie.Need-returns
-returns c = search needs
+returns c = tt
 
 returns-2 : tie.Need-returns-2
-returns-2 c = search needs
+returns-2 c = tt
 
 returns-3 : tie.Need-returns-3
-returns-3 c = search needs
+returns-3 c = tt
 
 pub told-evaluation-spec : {M : Type 1} → statement M
 told-evaluation-spec =

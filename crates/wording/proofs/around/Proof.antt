@@ -5,13 +5,6 @@ use Rattle.wording.proofs.Answering.{around-here, around-end}
 use borrow.Author.Needs.{needs}
 use Rattle.wording.proofs.around.Statement.{statement}
 use Rattle.wording.proofs.around.Tie as tie
-use Rattle.wording.proofs.around.Reads as reads
-use Rattle.wording.proofs.around.Lts as lts
-use Rattle.wording.proofs.dots.Reads as dots-reads
-use Rattle.wording.proofs.here.Reads as here-reads
-use Rattle.wording.proofs.page.bytes.Reads as bytes-reads
-use Rattle.wording.proofs.page.words.Reads as words-reads
-use Rattle.wording.proofs.start.Reads as start-reads
 
 start-requires : tie.Need-start-requires
 start-requires c κs = search needs

@@ -7,12 +7,6 @@ use Rattle.wording.proofs.Answering.{three}
 use borrow.Author.Needs.{needs}
 use Rattle.wording.proofs.at_phrase.Statement.{statement}
 use Rattle.wording.proofs.at_phrase.Tie as tie
-use Rattle.wording.proofs.at_phrase.Reads as reads
-use Rattle.wording.proofs.at_phrase.Lts as lts
-use Rattle.wording.proofs.facts_of.Reads as facts-of-reads
-use Rattle.wording.proofs.page.words.Reads as words-reads
-use Rattle.wording.proofs.template.fill.Reads as fill-reads
-use Rattle.words.proofs.at.Reads as at-reads
 
 facts-of-requires : tie.Need-facts-of-requires
 facts-of-requires c κs = search needs

@@ -5,9 +5,6 @@ use Rattle.wording.specs.Answers.{dotsText}
 use borrow.Author.Needs.{needs}
 use Rattle.wording.proofs.dots.Statement.{statement}
 use Rattle.wording.proofs.dots.Tie as tie
-use Rattle.wording.proofs.dots.Reads as reads
-use Rattle.wording.proofs.dots.Lts as lts
-use Rattle.wording.proofs.page.words.Reads as words-reads
 
 slice-aggregate-words : tie.Need-slice-aggregate-words
 slice-aggregate-words c = search needs

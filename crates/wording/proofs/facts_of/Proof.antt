@@ -3,10 +3,6 @@ use Rattle.wording.specs.Answers.{factsOf}
 use borrow.Author.Needs.{needs}
 use Rattle.wording.proofs.facts_of.Statement.{statement}
 use Rattle.wording.proofs.facts_of.Tie as tie
-use Rattle.wording.proofs.facts_of.Reads as reads
-use Rattle.wording.proofs.facts_of.Lts as lts
-use Rattle.wording.proofs.operand.Reads as operand-reads
-use Rattle.words.proofs.at.Reads as at-reads
 
 at-requires : tie.Need-at-requires
 at-requires c κs = search needs

@@ -5,10 +5,6 @@ use mathlib.Core.List.{[]}
 use borrow.Author.Needs.{needs}
 use Rattle.wording.proofs.fails.Statement.{statement}
 use Rattle.wording.proofs.fails.Tie as tie
-use Rattle.wording.proofs.fails.Reads as reads
-use Rattle.wording.proofs.fails.Lts as lts
-use Rattle.wording.proofs.in_sheet.Reads as in-sheet-reads
-use Rattle.wording.proofs.refused.Reads as refused-reads
 
 refused-requires : tie.Need-refused-requires
 refused-requires c κs = search needs

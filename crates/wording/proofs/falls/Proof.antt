@@ -4,11 +4,6 @@ use Rattle.wording.proofs.Answering.{falls-sheet, falls-certificate, fa
 use borrow.Author.Needs.{needs}
 use Rattle.wording.proofs.falls.Statement.{statement}
 use Rattle.wording.proofs.falls.Tie as tie
-use Rattle.wording.proofs.falls.Reads as reads
-use Rattle.wording.proofs.falls.Lts as lts
-use Rattle.wording.proofs.in_certificate.Reads as in-certificate-reads
-use Rattle.wording.proofs.in_sheet.Reads as in-sheet-reads
-use Rattle.wording.proofs.refused.Reads as refused-reads
 
 refused-requires : tie.Need-refused-requires
 refused-requires c κs = search needs

@@ -5,9 +5,6 @@ use Rattle.wording.proofs.Finding.{Passed, passed-none, passed-found, p
 use borrow.Author.Needs.{needs}
 use Rattle.wording.proofs.first_at.Statement.{statement}
 use Rattle.wording.proofs.first_at.Tie as tie
-use Rattle.wording.proofs.first_at.Reads as reads
-use Rattle.wording.proofs.first_at.Lts as lts
-use Rattle.words.proofs.at.Reads as at-reads
 
 abbrev Inv-loop : tie.InvT-loop
 Inv-loop s w i₀ i = Passed s w i

@@ -6,12 +6,6 @@ use Rattle.wording.proofs.Answering.{three}
 use borrow.Author.Needs.{needs}
 use Rattle.wording.proofs.here.Statement.{statement}
 use Rattle.wording.proofs.here.Tie as tie
-use Rattle.wording.proofs.here.Reads as reads
-use Rattle.wording.proofs.here.Lts as lts
-use Rattle.wording.proofs.dots.Reads as dots-reads
-use Rattle.wording.proofs.page.bytes.Reads as bytes-reads
-use Rattle.wording.proofs.page.wide.Reads as wide-reads
-use Rattle.wording.proofs.template.fill.Reads as fill-reads
 
 slice-aggregate-fill : tie.Need-slice-aggregate-fill
 slice-aggregate-fill c = search needs

@@ -5,12 +5,6 @@ use Rattle.wording.specs.Text.{text, upTo, after, piece}
 use borrow.Author.Needs.{needs}
 use Rattle.wording.proofs.in_decimal.Statement.{statement}
 use Rattle.wording.proofs.in_decimal.Tie as tie
-use Rattle.wording.proofs.in_decimal.Reads as reads
-use Rattle.wording.proofs.in_decimal.Lts as lts
-use Rattle.wording.proofs.page.bytes.Reads as bytes-reads
-use Rattle.wording.proofs.page.number.Reads as number-reads
-use Rattle.wording.proofs.page.wide.Reads as wide-reads
-use Rattle.wording.proofs.page.words.Reads as words-reads
 
 slice-aggregate-words : tie.Need-slice-aggregate-words
 slice-aggregate-words c = search needs

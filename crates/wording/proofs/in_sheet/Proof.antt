@@ -6,11 +6,6 @@ use Rattle.wording.proofs.Answering.{three}
 use borrow.Author.Needs.{needs}
 use Rattle.wording.proofs.in_sheet.Statement.{statement}
 use Rattle.wording.proofs.in_sheet.Tie as tie
-use Rattle.wording.proofs.in_sheet.Reads as reads
-use Rattle.wording.proofs.in_sheet.Lts as lts
-use Rattle.wording.proofs.around.Reads as around-reads
-use Rattle.wording.proofs.page.words.Reads as words-reads
-use Rattle.wording.proofs.template.fill.Reads as fill-reads
 
 slice-aggregate-fill : tie.Need-slice-aggregate-fill
 slice-aggregate-fill c = search needs

@@ -5,10 +5,6 @@ use Rattle.wording.specs.Answers.{operand as Answers·operand}
 use borrow.Author.Needs.{needs}
 use Rattle.wording.proofs.operand.Statement.{statement}
 use Rattle.wording.proofs.operand.Tie as tie
-use Rattle.wording.proofs.operand.Reads as reads
-use Rattle.wording.proofs.operand.Lts as lts
-use Rattle.wording.proofs.first_at.Reads as first-at-reads
-use Rattle.words.proofs.at.Reads as at-reads
 
 at-requires : tie.Need-at-requires
 at-requires c κs = search needs

@@ -5,9 +5,6 @@ use Rattle.wording.specs.Answers.{refusedText}
 use borrow.Author.Needs.{needs}
 use Rattle.wording.proofs.refused.Statement.{statement}
 use Rattle.wording.proofs.refused.Tie as tie
-use Rattle.wording.proofs.refused.Reads as reads
-use Rattle.wording.proofs.refused.Lts as lts
-use Rattle.wording.proofs.template.fill.Reads as fill-reads
 
 slice-aggregate-fill : tie.Need-slice-aggregate-fill
 slice-aggregate-fill c = search needs

@@ -5,9 +5,6 @@ use Rattle.wording.specs.Answers.{standsText}
 use borrow.Author.Needs.{needs}
 use Rattle.wording.proofs.stands.Statement.{statement}
 use Rattle.wording.proofs.stands.Tie as tie
-use Rattle.wording.proofs.stands.Reads as reads
-use Rattle.wording.proofs.stands.Lts as lts
-use Rattle.wording.proofs.template.fill.Reads as fill-reads
 
 slice-aggregate-fill : tie.Need-slice-aggregate-fill
 slice-aggregate-fill c = search needs

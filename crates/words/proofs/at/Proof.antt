@@ -4,9 +4,6 @@ use lib.ListN.{List·getD-eq-default}
 use borrow.Author.Needs.{needs}
 use Rattle.words.proofs.at.Statement.{statement}
 use Rattle.words.proofs.at.Tie as tie
-use Rattle.words.proofs.at.Reads as reads
-use Rattle.words.proofs.at.Lts as lts
-use Rattle.words.proofs.wide.Reads as wide-reads
 
 mul-wide : tie.Need-mul-wide
 mul-wide c = search needs

@@ -6,9 +6,6 @@ use native.Mathlib.Numerals.{add-one}
 use borrow.Author.Needs.{needs}
 use Rattle.words.proofs.put2.Statement.{statement}
 use Rattle.words.proofs.put2.Tie as tie
-use Rattle.words.proofs.put2.Reads as reads
-use Rattle.words.proofs.put2.Lts as lts
-use Rattle.words.proofs.put.Reads as put-reads
 
 put-requires : tie.Need-put-requires
 put-requires c κs = search needs

@@ -8,9 +8,6 @@ use native.Mathlib.Omega.{arith}
 use borrow.Author.Needs.{needs}
 use Rattle.words.proofs.put4.Statement.{statement}
 use Rattle.words.proofs.put4.Tie as tie
-use Rattle.words.proofs.put4.Reads as reads
-use Rattle.words.proofs.put4.Lts as lts
-use Rattle.words.proofs.put2.Reads as put2-reads
 
 put2-requires : tie.Need-put2-requires
 put2-requires c κs = search needs

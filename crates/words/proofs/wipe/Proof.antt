@@ -8,8 +8,6 @@ use Prim.Native.Nat.{ℕ, _≤_, _-_}
 use borrow.Author.Needs.{needs}
 use Rattle.words.proofs.wipe.Statement.{statement}
 use Rattle.words.proofs.wipe.Tie as tie
-use Rattle.words.proofs.wipe.Reads as reads
-use Rattle.words.proofs.wipe.Lts as lts
 
 abbrev Inv-loop : tie.InvT-loop
 Inv-loop t₀ n i₀ t i = (i ≤ n) × (length t ≡ length t₀) × (t ≡ replicate i 0 ++ drop i t₀)

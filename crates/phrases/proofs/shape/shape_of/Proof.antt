@@ -4,9 +4,6 @@ use Rattle.phrases.proofs.PhraseKinds.{no-deduction}
 use borrow.Author.Needs.{needs}
 use Rattle.phrases.proofs.shape.shape_of.Statement.{statement}
 use Rattle.phrases.proofs.shape.shape_of.Tie as tie
-use Rattle.phrases.proofs.shape.shape_of.Reads as reads
-use Rattle.phrases.proofs.shape.shape_of.Lts as lts
-use Rattle.phrases.proofs.shape.shape_of_expression.Reads as shape-of-expression-reads
 
 shape-of-expression-requires : tie.Need-shape-of-expression-requires
 shape-of-expression-requires c κs = search needs

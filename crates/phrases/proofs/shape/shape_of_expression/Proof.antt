@@ -4,8 +4,6 @@ use Rattle.phrases.proofs.PhraseKinds.{no-expression}
 use borrow.Author.Needs.{needs}
 use Rattle.phrases.proofs.shape.shape_of_expression.Statement.{statement}
 use Rattle.phrases.proofs.shape.shape_of_expression.Tie as tie
-use Rattle.phrases.proofs.shape.shape_of_expression.Reads as reads
-use Rattle.phrases.proofs.shape.shape_of_expression.Lts as lts
 
 returns : tie.Need-returns
 returns c = search needs

@@ -4,11 +4,6 @@ use Rattle.reader.proofs.Naming.{part-room, part-refused, part-read}
 use borrow.Author.Needs.{needs}
 use Rattle.reader.proofs.parts.propositions.Statement.{statement}
 use Rattle.reader.proofs.parts.propositions.Tie as tie
-use Rattle.reader.proofs.parts.propositions.Reads as reads
-use Rattle.reader.proofs.parts.propositions.Lts as lts
-use Rattle.forms.proofs.start.Reads as start-reads
-use Rattle.numbers.proofs.read_from.Reads as read-from-reads
-use Rattle.reader.proofs.read_propositions.Reads as read-propositions-reads
 
 start-requires : tie.Need-start-requires
 start-requires c κs = search needs

@@ -4,9 +4,6 @@ use lib.ListN.{List·getD-eq-default}
 use borrow.Author.Needs.{needs}
 use Rattle.records.proofs.names.cell.Statement.{statement}
 use Rattle.records.proofs.names.cell.Tie as tie
-use Rattle.records.proofs.names.cell.Reads as reads
-use Rattle.records.proofs.names.cell.Lts as lts
-use Rattle.records.proofs.names.wide.Reads as wide-reads
 
 mul-wide : tie.Need-mul-wide
 mul-wide c = search needs

@@ -4,10 +4,6 @@ use Rattle.records.proofs.References.{gotten-got, gotten-no, name-read,
 use borrow.Author.Needs.{needs}
 use Rattle.records.proofs.names.name_ref.Statement.{statement}
 use Rattle.records.proofs.names.name_ref.Tie as tie
-use Rattle.records.proofs.names.name_ref.Reads as reads
-use Rattle.records.proofs.names.name_ref.Lts as lts
-use Rattle.numbers.proofs.read_below.Reads as read-below-reads
-use Rattle.records.proofs.names.cell.Reads as cell-reads
 
 read-below-requires : tie.Need-read-below-requires
 read-below-requires c κs = search needs

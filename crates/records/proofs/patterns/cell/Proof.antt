@@ -4,9 +4,6 @@ use Rattle.records.proofs.Tables.{cell-at}
 use borrow.Author.Needs.{needs}
 use Rattle.records.proofs.patterns.cell.Statement.{statement}
 use Rattle.records.proofs.patterns.cell.Tie as tie
-use Rattle.records.proofs.patterns.cell.Reads as reads
-use Rattle.records.proofs.patterns.cell.Lts as lts
-use Rattle.records.proofs.names.cell.Reads as cell-reads
 
 mul-cell : tie.Need-mul-cell
 mul-cell c = search needs

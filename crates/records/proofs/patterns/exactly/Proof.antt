@@ -6,10 +6,6 @@ use Rattle.records.proofs.References.{gotten-got, gotten-no, narrow-got
 use borrow.Author.Needs.{needs}
 use Rattle.records.proofs.patterns.exactly.Statement.{statement}
 use Rattle.records.proofs.patterns.exactly.Tie as tie
-use Rattle.records.proofs.patterns.exactly.Reads as reads
-use Rattle.records.proofs.patterns.exactly.Lts as lts
-use Rattle.records.proofs.names.name_ref.Reads as name-ref-reads
-use Rattle.records.proofs.patterns.small.Reads as small-reads
 
 name-ref-requires : tie.Need-name-ref-requires
 name-ref-requires c κs = search needs

@@ -8,11 +8,6 @@ use Rattle.records.proofs.Tables.{rows-long}
 use borrow.Author.Needs.{needs}
 use Rattle.records.proofs.patterns.negation.Statement.{statement}
 use Rattle.records.proofs.patterns.negation.Tie as tie
-use Rattle.records.proofs.patterns.negation.Reads as reads
-use Rattle.records.proofs.patterns.negation.Lts as lts
-use Rattle.numbers.proofs.read_below.Reads as read-below-reads
-use Rattle.records.proofs.patterns.cell.Reads as cell-reads
-use Rattle.records.proofs.patterns.small.Reads as small-reads
 
 read-below-requires : tie.Need-read-below-requires
 read-below-requires c κs = search needs

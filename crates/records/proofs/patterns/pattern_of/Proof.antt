@@ -6,12 +6,6 @@ use Rattle.records.proofs.ByKind.{pattern-junction, pattern-none}
 use borrow.Author.Needs.{needs}
 use Rattle.records.proofs.patterns.pattern_of.Statement.{statement}
 use Rattle.records.proofs.patterns.pattern_of.Tie as tie
-use Rattle.records.proofs.patterns.pattern_of.Reads as reads
-use Rattle.records.proofs.patterns.pattern_of.Lts as lts
-use Rattle.records.proofs.patterns.exactly.Reads as exactly-reads
-use Rattle.records.proofs.patterns.junction.Reads as junction-reads
-use Rattle.records.proofs.patterns.negation.Reads as negation-reads
-use Rattle.records.proofs.patterns.small.Reads as small-reads
 
 small-requires : tie.Need-small-requires
 small-requires c κs = search needs

@@ -5,10 +5,6 @@ use Rattle.records.proofs.References.{gotten-got, gotten-no}
 use borrow.Author.Needs.{needs}
 use Rattle.records.proofs.patterns.pattern_row.Statement.{statement}
 use Rattle.records.proofs.patterns.pattern_row.Tie as tie
-use Rattle.records.proofs.patterns.pattern_row.Reads as reads
-use Rattle.records.proofs.patterns.pattern_row.Lts as lts
-use Rattle.numbers.proofs.read.Reads as read-reads
-use Rattle.records.proofs.patterns.pattern_of.Reads as pattern-of-reads
 
 read-requires : tie.Need-read-requires
 read-requires c κs = search needs

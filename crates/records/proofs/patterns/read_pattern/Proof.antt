@@ -3,10 +3,6 @@ use Rattle.records.proofs.Tables.{put-refused, put-row}
 use borrow.Author.Needs.{needs}
 use Rattle.records.proofs.patterns.read_pattern.Statement.{statement}
 use Rattle.records.proofs.patterns.read_pattern.Tie as tie
-use Rattle.records.proofs.patterns.read_pattern.Reads as reads
-use Rattle.records.proofs.patterns.read_pattern.Lts as lts
-use Rattle.records.proofs.patterns.pattern_row.Reads as pattern-row-reads
-use Rattle.records.proofs.rows.lay.Reads as lay-reads
 
 slice-aggregate-pattern-row : tie.Need-slice-aggregate-pattern-row
 slice-aggregate-pattern-row c = search needs

@@ -5,9 +5,6 @@ use Rattle.records.specs.Reading.{smallRow}
 use borrow.Author.Needs.{needs}
 use Rattle.records.proofs.patterns.small.Statement.{statement}
 use Rattle.records.proofs.patterns.small.Tie as tie
-use Rattle.records.proofs.patterns.small.Reads as reads
-use Rattle.records.proofs.patterns.small.Lts as lts
-use Rattle.words.proofs.put.Reads as put-reads
 
 returns : tie.Need-returns
 unfolding smallRow check

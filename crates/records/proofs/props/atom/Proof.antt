@@ -7,10 +7,6 @@ use Rattle.records.proofs.References.{gotten-got, gotten-no}
 use borrow.Author.Needs.{needs}
 use Rattle.records.proofs.props.atom.Statement.{statement}
 use Rattle.records.proofs.props.atom.Tie as tie
-use Rattle.records.proofs.props.atom.Reads as reads
-use Rattle.records.proofs.props.atom.Lts as lts
-use Rattle.forms.proofs.word.Reads as word-reads
-use Rattle.numbers.proofs.read_from.Reads as read-from-reads
 
 read-from-requires : tie.Need-read-from-requires
 read-from-requires c κs = search needs

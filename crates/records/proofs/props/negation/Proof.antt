@@ -6,10 +6,6 @@ use Rattle.records.proofs.References.{gotten-got, gotten-no, name-low}
 use borrow.Author.Needs.{needs}
 use Rattle.records.proofs.props.negation.Statement.{statement}
 use Rattle.records.proofs.props.negation.Tie as tie
-use Rattle.records.proofs.props.negation.Reads as reads
-use Rattle.records.proofs.props.negation.Lts as lts
-use Rattle.forms.proofs.word.Reads as word-reads
-use Rattle.records.proofs.names.name_ref.Reads as name-ref-reads
 
 name-ref-requires : tie.Need-name-ref-requires
 name-ref-requires c κs = search needs

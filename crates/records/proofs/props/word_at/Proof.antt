@@ -5,10 +5,6 @@ use Rattle.records.proofs.References.{gotten-got, gotten-no}
 use borrow.Author.Needs.{needs}
 use Rattle.records.proofs.props.word_at.Statement.{statement}
 use Rattle.records.proofs.props.word_at.Tie as tie
-use Rattle.records.proofs.props.word_at.Reads as reads
-use Rattle.records.proofs.props.word_at.Lts as lts
-use Rattle.numbers.proofs.read.Reads as read-reads
-use Rattle.records.proofs.props.word_of.Reads as word-of-reads
 
 read-requires : tie.Need-read-requires
 read-requires c κs = search needs

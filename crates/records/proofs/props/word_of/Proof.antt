@@ -7,11 +7,6 @@ use Rattle.records.proofs.ByKind.{word-plain, word-junction, word-none}
 use borrow.Author.Needs.{needs}
 use Rattle.records.proofs.props.word_of.Statement.{statement}
 use Rattle.records.proofs.props.word_of.Tie as tie
-use Rattle.records.proofs.props.word_of.Reads as reads
-use Rattle.records.proofs.props.word_of.Lts as lts
-use Rattle.records.proofs.props.atom.Reads as atom-reads
-use Rattle.records.proofs.props.junction.Reads as junction-reads
-use Rattle.records.proofs.props.negation.Reads as negation-reads
 
 atom-requires : tie.Need-atom-requires
 atom-requires c κs = search needs

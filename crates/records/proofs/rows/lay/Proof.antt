@@ -5,8 +5,6 @@ use Rattle.records.proofs.Tables.{Laying, laying-start, laying-more, la
 use borrow.Author.Needs.{needs}
 use Rattle.records.proofs.rows.lay.Statement.{statement}
 use Rattle.records.proofs.rows.lay.Tie as tie
-use Rattle.records.proofs.rows.lay.Reads as reads
-use Rattle.records.proofs.rows.lay.Lts as lts
 
 abbrev Inv-loop : tie.InvT-loop
 Inv-loop t₀ row from i₀ t i = Laying t₀ row from t i

@@ -3,9 +3,6 @@ use Rattle.wording.proofs.Decoding.{before-end, past-end}
 use borrow.Author.Needs.{needs}
 use Rattle.wording.proofs.decimals.character.Statement.{statement}
 use Rattle.wording.proofs.decimals.character.Tie as tie
-use Rattle.wording.proofs.decimals.character.Reads as reads
-use Rattle.wording.proofs.decimals.character.Lts as lts
-use Rattle.wording.proofs.page.wide.Reads as wide-reads
 
 shared-slice-read-wide : tie.Need-shared-slice-read-wide
 shared-slice-read-wide c = search needs

@@ -3,9 +3,6 @@ use Rattle.wording.proofs.Decoding.{digit-fits, digit-large}
 use borrow.Author.Needs.{needs}
 use Rattle.wording.proofs.decimals.digit.Statement.{statement}
 use Rattle.wording.proofs.decimals.digit.Tie as tie
-use Rattle.wording.proofs.decimals.digit.Reads as reads
-use Rattle.wording.proofs.decimals.digit.Lts as lts
-use Rattle.wording.proofs.decimals.grown.Reads as grown-reads
 
 grown-requires : tie.Need-grown-requires
 grown-requires c κs = search needs

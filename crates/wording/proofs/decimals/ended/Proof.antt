@@ -8,8 +8,6 @@ use Rattle.wording.proofs.Decoding.{ended-none, ended-some, ended-full}
 use borrow.Author.Needs.{needs}
 use Rattle.wording.proofs.decimals.ended.Statement.{statement}
 use Rattle.wording.proofs.decimals.ended.Tie as tie
-use Rattle.wording.proofs.decimals.ended.Reads as reads
-use Rattle.wording.proofs.decimals.ended.Lts as lts
 
 returns : tie.Need-returns
 unfolding more stepOf

@@ -5,8 +5,6 @@ use Rattle.wording.specs.Decimals.{grown as Decimals·grown}
 use borrow.Author.Needs.{needs}
 use Rattle.wording.proofs.decimals.grown.Statement.{statement}
 use Rattle.wording.proofs.decimals.grown.Tie as tie
-use Rattle.wording.proofs.decimals.grown.Reads as reads
-use Rattle.wording.proofs.decimals.grown.Lts as lts
 
 sub-result : tie.Need-sub-result
 sub-result c = search needs

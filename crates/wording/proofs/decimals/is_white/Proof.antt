@@ -3,8 +3,6 @@ use borrow.Author.Tests.{eq-eqb, ne-eqb}
 use Rattle.wording.specs.Decimals.{white}
 use Rattle.wording.proofs.decimals.is_white.Statement.{statement}
 use Rattle.wording.proofs.decimals.is_white.Tie as tie
-use Rattle.wording.proofs.decimals.is_white.Reads as reads
-use Rattle.wording.proofs.decimals.is_white.Lts as lts
 
 returns : tie.Need-returns
 unfolding white

@@ -5,9 +5,6 @@ use Rattle.wording.specs.Decimals.{other as Decimals·other, stepOf}
 use borrow.Author.Needs.{needs}
 use Rattle.wording.proofs.decimals.other.Statement.{statement}
 use Rattle.wording.proofs.decimals.other.Tie as tie
-use Rattle.wording.proofs.decimals.other.Reads as reads
-use Rattle.wording.proofs.decimals.other.Lts as lts
-use Rattle.wording.proofs.decimals.digit.Reads as digit-reads
 
 digit-requires : tie.Need-digit-requires
 digit-requires c κs = search needs

@@ -6,10 +6,6 @@ use Rattle.wording.proofs.Decoding.{At, at-start, at-wrong, at-full, at
 use borrow.Author.Needs.{needs}
 use Rattle.wording.proofs.decimals.read.Statement.{statement}
 use Rattle.wording.proofs.decimals.read.Tie as tie
-use Rattle.wording.proofs.decimals.read.Reads as reads
-use Rattle.wording.proofs.decimals.read.Lts as lts
-use Rattle.wording.proofs.decimals.character.Reads as character-reads
-use Rattle.wording.proofs.decimals.turn.Reads as turn-reads
 
 abbrev Inv-loop : tie.InvT-loop
 Inv-loop out₀ text i₀ v₀ n₀ out i v n = At text out₀ out i v n

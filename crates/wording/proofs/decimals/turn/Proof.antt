@@ -4,11 +4,6 @@ use Rattle.wording.proofs.Decoding.{turn-white, turn-other}
 use borrow.Author.Needs.{needs}
 use Rattle.wording.proofs.decimals.turn.Statement.{statement}
 use Rattle.wording.proofs.decimals.turn.Tie as tie
-use Rattle.wording.proofs.decimals.turn.Reads as reads
-use Rattle.wording.proofs.decimals.turn.Lts as lts
-use Rattle.wording.proofs.decimals.ended.Reads as ended-reads
-use Rattle.wording.proofs.decimals.is_white.Reads as is-white-reads
-use Rattle.wording.proofs.decimals.other.Reads as other-reads
 
 is-white-requires : tie.Need-is-white-requires
 is-white-requires c κs = search needs

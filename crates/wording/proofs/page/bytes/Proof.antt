@@ -5,10 +5,6 @@ use Rattle.wording.proofs.Listing.{At, at-start, at-none, at-more, at-e
 use borrow.Author.Needs.{needs}
 use Rattle.wording.proofs.page.bytes.Statement.{statement}
 use Rattle.wording.proofs.page.bytes.Tie as tie
-use Rattle.wording.proofs.page.bytes.Reads as reads
-use Rattle.wording.proofs.page.bytes.Lts as lts
-use Rattle.wording.proofs.page.spaced.Reads as spaced-reads
-use Rattle.wording.proofs.page.wide.Reads as wide-reads
 
 abbrev Inv-loop : tie.InvT-loop
 Inv-loop out₀ at s from n k₀ i₀ left₀ out k i left = At s from n out₀ at out k i left

@@ -6,9 +6,6 @@ use Rattle.wording.proofs.Listing.{At, at-start, at-none, at-more, at-e
 use borrow.Author.Needs.{needs}
 use Rattle.wording.proofs.page.list.Statement.{statement}
 use Rattle.wording.proofs.page.list.Tie as tie
-use Rattle.wording.proofs.page.list.Reads as reads
-use Rattle.wording.proofs.page.list.Lts as lts
-use Rattle.wording.proofs.page.spaced.Reads as spaced-reads
 
 abbrev Inv-loop : tie.InvT-loop
 Inv-loop out₀ at numbers from n k₀ i₀ left₀ out k i left = At numbers from n out₀ at out k i left

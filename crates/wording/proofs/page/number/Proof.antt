@@ -3,9 +3,6 @@ use Rattle.wording.specs.Text.{decimal}
 use borrow.Author.Needs.{needs}
 use Rattle.wording.proofs.page.number.Statement.{statement}
 use Rattle.wording.proofs.page.number.Tie as tie
-use Rattle.wording.proofs.page.number.Reads as reads
-use Rattle.wording.proofs.page.number.Lts as lts
-use Rattle.wording.proofs.page.last_digits.Reads as last-digits-reads
 
 last-digits-requires : tie.Need-last-digits-requires
 last-digits-requires c κs = search needs

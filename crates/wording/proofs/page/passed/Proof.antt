@@ -4,8 +4,6 @@ use Rattle.wording.specs.Page.{pick}
 use borrow.Author.Needs.{needs}
 use Rattle.wording.proofs.page.passed.Statement.{statement}
 use Rattle.wording.proofs.page.passed.Tie as tie
-use Rattle.wording.proofs.page.passed.Reads as reads
-use Rattle.wording.proofs.page.passed.Lts as lts
 
 sub-result : tie.Need-sub-result
 sub-result c = search needs

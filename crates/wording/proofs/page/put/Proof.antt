@@ -3,8 +3,6 @@ use Rattle.wording.proofs.Writing.{put-room, put-full}
 use borrow.Author.Needs.{needs}
 use Rattle.wording.proofs.page.put.Statement.{statement}
 use Rattle.wording.proofs.page.put.Tie as tie
-use Rattle.wording.proofs.page.put.Reads as reads
-use Rattle.wording.proofs.page.put.Lts as lts
 
 slice-write-out : tie.Need-slice-write-out
 slice-write-out c = search needs

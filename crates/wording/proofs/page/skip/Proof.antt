@@ -5,10 +5,6 @@ use Rattle.wording.proofs.Pieces.{Passing, pass-start, pass-none, pass-
 use borrow.Author.Needs.{needs}
 use Rattle.wording.proofs.page.skip.Statement.{statement}
 use Rattle.wording.proofs.page.skip.Tie as tie
-use Rattle.wording.proofs.page.skip.Reads as reads
-use Rattle.wording.proofs.page.skip.Lts as lts
-use Rattle.wording.proofs.page.passed.Reads as passed-reads
-use Rattle.wording.proofs.page.wide.Reads as wide-reads
 
 abbrev Inv-loop : tie.InvT-loop
 Inv-loop text k i₀ left₀ i left = Passing text k i left

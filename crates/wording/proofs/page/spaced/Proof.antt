@@ -2,10 +2,6 @@
 use borrow.Author.Needs.{needs}
 use Rattle.wording.proofs.page.spaced.Statement.{statement}
 use Rattle.wording.proofs.page.spaced.Tie as tie
-use Rattle.wording.proofs.page.spaced.Reads as reads
-use Rattle.wording.proofs.page.spaced.Lts as lts
-use Rattle.wording.proofs.page.number.Reads as number-reads
-use Rattle.wording.proofs.page.put.Reads as put-reads
 
 put-requires : tie.Need-put-requires
 put-requires c κs = search needs

@@ -6,10 +6,6 @@ use Rattle.wording.proofs.Pieces.{At, at-start, at-bar, at-more, at-end
 use borrow.Author.Needs.{needs}
 use Rattle.wording.proofs.page.up_to.Statement.{statement}
 use Rattle.wording.proofs.page.up_to.Tie as tie
-use Rattle.wording.proofs.page.up_to.Reads as reads
-use Rattle.wording.proofs.page.up_to.Lts as lts
-use Rattle.wording.proofs.page.put.Reads as put-reads
-use Rattle.wording.proofs.page.wide.Reads as wide-reads
 
 abbrev Inv-loop : tie.InvT-loop
 Inv-loop out₀ at text from k₀ i₀ out k i = At text from out₀ at out k i

@@ -3,10 +3,6 @@ use Rattle.wording.specs.Text.{piece}
 use borrow.Author.Needs.{needs}
 use Rattle.wording.proofs.page.words.Statement.{statement}
 use Rattle.wording.proofs.page.words.Tie as tie
-use Rattle.wording.proofs.page.words.Reads as reads
-use Rattle.wording.proofs.page.words.Lts as lts
-use Rattle.wording.proofs.page.skip.Reads as skip-reads
-use Rattle.wording.proofs.page.up_to.Reads as up-to-reads
 
 skip-requires : tie.Need-skip-requires
 skip-requires c κs = search needs

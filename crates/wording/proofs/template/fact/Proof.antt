@@ -4,8 +4,6 @@ use lib.ListN.{List·getD-eq-default}
 use borrow.Author.Needs.{needs}
 use Rattle.wording.proofs.template.fact.Statement.{statement}
 use Rattle.wording.proofs.template.fact.Tie as tie
-use Rattle.wording.proofs.template.fact.Reads as reads
-use Rattle.wording.proofs.template.fact.Lts as lts
 
 mul-result : tie.Need-mul-result
 mul-result c = search needs

@@ -3,10 +3,6 @@ use Rattle.wording.specs.Text.{piece}
 use borrow.Author.Needs.{needs}
 use Rattle.wording.proofs.template.fill.Statement.{statement}
 use Rattle.wording.proofs.template.fill.Tie as tie
-use Rattle.wording.proofs.template.fill.Reads as reads
-use Rattle.wording.proofs.template.fill.Lts as lts
-use Rattle.wording.proofs.page.skip.Reads as skip-reads
-use Rattle.wording.proofs.template.fill_from.Reads as fill-from-reads
 
 skip-requires : tie.Need-skip-requires
 skip-requires c κs = search needs

@@ -6,10 +6,6 @@ use Rattle.wording.proofs.Filling.{At, at-start, at-bar, at-more, at-en
 use borrow.Author.Needs.{needs}
 use Rattle.wording.proofs.template.fill_from.Statement.{statement}
 use Rattle.wording.proofs.template.fill_from.Tie as tie
-use Rattle.wording.proofs.template.fill_from.Reads as reads
-use Rattle.wording.proofs.template.fill_from.Lts as lts
-use Rattle.wording.proofs.page.wide.Reads as wide-reads
-use Rattle.wording.proofs.template.part.Reads as part-reads
 
 abbrev Inv-loop : tie.InvT-loop
 Inv-loop out₀ at text from facts k₀ i₀ out k i = At text facts from out₀ at out k i

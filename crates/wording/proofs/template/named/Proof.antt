@@ -7,9 +7,6 @@ use Rattle.wording.specs.Templates.{named as Templates·named}
 use borrow.Author.Needs.{needs}
 use Rattle.wording.proofs.template.named.Statement.{statement}
 use Rattle.wording.proofs.template.named.Tie as tie
-use Rattle.wording.proofs.template.named.Reads as reads
-use Rattle.wording.proofs.template.named.Lts as lts
-use Rattle.wording.proofs.page.words.Reads as words-reads
 
 slice-aggregate-words : tie.Need-slice-aggregate-words
 slice-aggregate-words c = search needs

@@ -5,8 +5,6 @@ use Rattle.wording.specs.Templates.{paired as Templates·paired}
 use borrow.Author.Needs.{needs}
 use Rattle.wording.proofs.template.paired.Statement.{statement}
 use Rattle.wording.proofs.template.paired.Tie as tie
-use Rattle.wording.proofs.template.paired.Reads as reads
-use Rattle.wording.proofs.template.paired.Lts as lts
 
 mul-result : tie.Need-mul-result
 mul-result c = search needs

@@ -3,11 +3,6 @@ use Rattle.wording.proofs.Filling.{part-told, part-high, part-low}
 use borrow.Author.Needs.{needs}
 use Rattle.wording.proofs.template.part.Statement.{statement}
 use Rattle.wording.proofs.template.part.Tie as tie
-use Rattle.wording.proofs.template.part.Reads as reads
-use Rattle.wording.proofs.template.part.Lts as lts
-use Rattle.wording.proofs.page.put.Reads as put-reads
-use Rattle.wording.proofs.page.wide.Reads as wide-reads
-use Rattle.wording.proofs.template.told.Reads as told-reads
 
 wide-requires : tie.Need-wide-requires
 wide-requires c κs = search needs

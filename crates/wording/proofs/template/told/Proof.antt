@@ -5,13 +5,6 @@ use Rattle.wording.specs.Templates.{told as Templates·told}
 use borrow.Author.Needs.{needs}
 use Rattle.wording.proofs.template.told.Statement.{statement}
 use Rattle.wording.proofs.template.told.Tie as tie
-use Rattle.wording.proofs.template.told.Reads as reads
-use Rattle.wording.proofs.template.told.Lts as lts
-use Rattle.wording.proofs.page.list.Reads as list-reads
-use Rattle.wording.proofs.page.number.Reads as number-reads
-use Rattle.wording.proofs.template.fact.Reads as fact-reads
-use Rattle.wording.proofs.template.named.Reads as named-reads
-use Rattle.wording.proofs.template.paired.Reads as paired-reads
 
 sub-fact : tie.Need-sub-fact
 sub-fact c = search needs
