@@ -1,8 +1,8 @@
 /* Waxdapple for C: the proved evaluator and certificate checker of release arguments.
  *
  * Both functions are total: every sheet of bytes, budget and buffer length gets an answer, and nothing outside the lent buffers is read or written.
- * A pointer must point to as many elements as the length beside it says (any pointer that is not null where the length is 0), and no two lent
- * buffers may overlap.
+ * A pointer must point to as many elements as the length beside it says (any pointer that is not null where the length is 0), place, work and
+ * inferences must be valid pointers to a number each, and none of what is lent may overlap another: buffers and the three numbers are distinct.
  *
  * Scratch is lent by the caller, in buffers of 32-bit numbers of at least the lengths below; what they hold on entry does not matter. After
  * refusals 1 and 2 they are untouched; after every other answer they are zero up to the fixed lengths and untouched past them.
@@ -32,6 +32,9 @@ extern "C" {
 #define WAXDAPPLE_CHECK_PATTERNS 640
 #define WAXDAPPLE_CHECK_PHRASES 6144
 #define WAXDAPPLE_CHECK_BASE 576
+
+/* A thread that calls either function must have so many bytes of stack left. The deepest requests, measured, need less (docs/SCRATCH.md). */
+#define WAXDAPPLE_STACK 524288
 
 /* No certificate of an evaluation is longer (`evaluate-room` in docs/THEOREMS.md): an output of that length is never too short. */
 #define WAXDAPPLE_CERTIFICATE 47612

@@ -4,11 +4,13 @@
  *     driver stress ROUNDS [SEED] < requests
  *                                     damaged and shuffled requests, each answered by the library and by the baseline: answers, certificates, canaries
  *                                     around every buffer, the output past a certificate and the scratch afterwards are compared
+ *     driver stack < requests         how many bytes of stack the library needs for each request, and the answer's number
  */
 #include "../../include/waxdapple.h"
 #include "baseline.h"
 #include "lines.h"
 #include <stdlib.h>
+#include <ucontext.h>
 
 #define CANARY 0xA5u
 #define MARGIN 64
@@ -26,6 +28,9 @@ static uint8_t output[MARGIN + ROOM + MARGIN], expected[4 * ROOM];
 
 /* What came of a call: number 0 and values, or the refusal's number and place. */
 struct answer { size_t number, values[3]; };
+
+/* What no call has set. */
+static const struct answer unset = {(size_t)-1, {(size_t)-1, (size_t)-1, (size_t)-1}};
 
 static void prepare(struct buffer *b, int n) {
     for (int i = 0; i < n; i++) {
@@ -50,9 +55,16 @@ static int kept(struct buffer *b, int n, int untouched) {
     return 1;
 }
 
+/* Whether the output is untouched past so many bytes of it, and all around it. */
+static int output_kept(size_t written) {
+    for (size_t i = 0; i < sizeof output; i++)
+        if ((i < MARGIN || i >= MARGIN + written) && output[i] != CANARY) return 0;
+    return 1;
+}
+
 static struct answer evaluate(const uint8_t *sheet, size_t n, size_t budget, size_t room) {
     struct buffer *b = evaluation;
-    struct answer r;
+    struct answer r = unset;
     prepare(b, 7);
     memset(output, CANARY, sizeof output);
     r.number = waxdapple_evaluate(sheet, n, budget, lent(b), b[0].length, lent(b + 1), b[1].length, lent(b + 2), b[2].length, lent(b + 3), b[3].length,
@@ -62,7 +74,7 @@ static struct answer evaluate(const uint8_t *sheet, size_t n, size_t budget, siz
 
 static struct answer check(const uint8_t *sheet, size_t n, const uint8_t *certificate, size_t m) {
     struct buffer *b = checking;
-    struct answer r;
+    struct answer r = unset;
     prepare(b, 5);
     r.values[2] = 0;
     r.number = waxdapple_check(sheet, n, certificate, m, lent(b), b[0].length, lent(b + 1), b[1].length, lent(b + 2), b[2].length, lent(b + 3), b[3].length,
@@ -86,6 +98,51 @@ static int replay(void) {
             r = check(sheet, n, certificate, unhex(second, certificate));
             print_check(r.number, r.values[0], r.values[1]);
         } else printf("?\n");
+    }
+    return 0;
+}
+
+/* A call on a stack of its own, every byte of which is marked before. */
+#define STACK (16u << 20)
+static uint8_t *stack;
+static ucontext_t here, there;
+static struct { size_t sheet, certificate, budget, room; } asked;
+static struct answer given;
+
+static void evaluate_asked(void) { given = evaluate(sheet, asked.sheet, asked.budget, asked.room); }
+static void check_asked(void) { given = check(sheet, asked.sheet, certificate, asked.certificate); }
+
+/* How many bytes of a marked stack a call has used. */
+static size_t stack_used(void (*call)(void)) {
+    size_t untouched = 0;
+    memset(stack, CANARY, STACK);
+    getcontext(&there);
+    there.uc_stack.ss_sp = stack;
+    there.uc_stack.ss_size = STACK;
+    there.uc_link = &here;
+    makecontext(&there, call, 0);
+    swapcontext(&here, &there);
+    while (untouched < STACK && stack[untouched] == CANARY) untouched++;
+    return STACK - untouched;
+}
+
+static int stack_needed(void) {
+    unsigned long long budget;
+    stack = malloc(STACK);
+    if (!stack) abort();
+    while (fgets(line, sizeof line, stdin)) {
+        size_t used = 0;
+        if (sscanf(line, "E %llu %zu %s", &budget, &asked.room, first) == 3) {
+            asked.sheet = unhex(first, sheet);
+            asked.budget = (size_t)budget;
+            if (asked.room > ROOM) asked.room = ROOM;
+            used = stack_used(evaluate_asked);
+        } else if (sscanf(line, "C %s %s", first, second) == 2) {
+            asked.sheet = unhex(first, sheet);
+            asked.certificate = unhex(second, certificate);
+            used = stack_used(check_asked);
+        }
+        printf("%c %zu bytes of stack, answer %zu %zu\n", line[0], used, given.number, given.values[0]);
     }
     return 0;
 }
@@ -141,18 +198,18 @@ static void evaluated(size_t round) {
     if (r.number != b.number || r.values[0] != b.values[0]) fail("evaluation: another answer", round);
     if (!r.number && (r.values[1] != b.values[1] || r.values[2] != b.values[2] || memcmp(output + MARGIN, expected, written))) fail("evaluation: another certificate", round);
     if (r.number && (r.values[1] || r.values[2])) fail("evaluation: counts with a refusal", round);
-    for (size_t i = 0; i < sizeof output; i++)
-        if ((i < MARGIN || i >= MARGIN + written) && output[i] != CANARY) fail("evaluation: output touched", round);
+    if (!output_kept(written)) fail("evaluation: output touched", round);
     if (!kept(evaluation, 7, r.number == 1)) fail("evaluation: scratch", round);
 }
 
 static void checked(size_t round) {
     const struct bytes *c = &certificates[drawn(certificate_count)], *s = &sheets[drawn(8) ? c->of : drawn(sheet_count)];
-    size_t n = drawn(4) ? s->length : damaged(s, sheet), m = damaged(c, certificate);
-    if (n == s->length) memcpy(sheet, s->at, n);
+    size_t n = s->length, m = damaged(c, certificate);
+    if (drawn(4)) memcpy(sheet, s->at, n);
+    else n = damaged(s, sheet);
     struct answer r = check(sheet, n, certificate, m);
     struct baseline_answer b = baseline_check(sheet, n, certificate, m);
-    if (r.number != b.number || r.values[0] != b.values[0] || (!r.number && r.values[1] != b.values[1])) fail("check: another answer", round);
+    if (r.number != b.number || r.values[0] != b.values[0] || r.values[1] != (r.number ? 0 : b.values[1])) fail("check: another answer", round);
     if (!kept(checking, 5, 0)) fail("check: scratch", round);
 }
 
@@ -160,20 +217,20 @@ static void checked(size_t round) {
 static void short_buffers(void) {
     for (int i = 0; i < 7; i++) {
         struct buffer *b = evaluation;
-        size_t l[7], place, work, inferences;
+        size_t l[7], place = 9, work = 9, inferences = 9;
         prepare(b, 7);
         memset(output, CANARY, sizeof output);
         for (int j = 0; j < 7; j++) l[j] = b[j].fixed - (i == j);
         if (waxdapple_evaluate(sheets[0].at, sheets[0].length, 1024, lent(b), l[0], lent(b + 1), l[1], lent(b + 2), l[2], lent(b + 3), l[3], lent(b + 4), l[4],
-                lent(b + 5), l[5], lent(b + 6), l[6], output + MARGIN, ROOM, &place, &work, &inferences) != 2 || place || !kept(b, 7, 1)) fail("a short buffer of an evaluation", (size_t)i);
+                lent(b + 5), l[5], lent(b + 6), l[6], output + MARGIN, ROOM, &place, &work, &inferences) != 2 || place || work || inferences || !kept(b, 7, 1) || !output_kept(0)) fail("a short buffer of an evaluation", (size_t)i);
     }
     for (int i = 0; i < 5; i++) {
         struct buffer *b = checking;
-        size_t l[5], place, inferences;
+        size_t l[5], place = 9, inferences = 9;
         prepare(b, 5);
         for (int j = 0; j < 5; j++) l[j] = b[j].fixed - (i == j);
         if (waxdapple_check(sheets[0].at, sheets[0].length, certificates[0].at, certificates[0].length, lent(b), l[0], lent(b + 1), l[1], lent(b + 2), l[2],
-                lent(b + 3), l[3], lent(b + 4), l[4], &place, &inferences) != 2 || place || !kept(b, 5, 1)) fail("a short buffer of a check", (size_t)i);
+                lent(b + 3), l[3], lent(b + 4), l[4], &place, &inferences) != 2 || place || inferences || !kept(b, 5, 1)) fail("a short buffer of a check", (size_t)i);
     }
 }
 
@@ -205,6 +262,7 @@ static int stress(size_t rounds, uint64_t seed) {
 int main(int argc, char **argv) {
     if (argc == 2 && !strcmp(argv[1], "replay")) return replay();
     if ((argc == 3 || argc == 4) && !strcmp(argv[1], "stress")) return stress(strtoull(argv[2], 0, 10), argc == 4 ? strtoull(argv[3], 0, 10) : 1);
-    fprintf(stderr, "usage: driver replay | driver stress ROUNDS [SEED]\n");
+    if (argc == 2 && !strcmp(argv[1], "stack")) return stack_needed();
+    fprintf(stderr, "usage: driver replay | driver stress ROUNDS [SEED] | driver stack\n");
     return 2;
 }

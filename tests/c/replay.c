@@ -2,10 +2,12 @@
 #include "baseline.h"
 #include "lines.h"
 
-static uint8_t sheet[70000], certificate[70000], out[262144];
+#define LONGEST 262144
+
+static uint8_t sheet[LONGEST], certificate[LONGEST], out[LONGEST];
 
 int main(void) {
-    static char line[140100], a[140100], b[140100];
+    static char line[4 * LONGEST + 100], a[2 * LONGEST], b[2 * LONGEST];
     unsigned long long budget;
     unsigned room;
     while (fgets(line, sizeof line, stdin)) {

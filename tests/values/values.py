@@ -8,13 +8,10 @@ import os
 import sys
 
 sys.path.append(os.path.join(os.path.dirname(os.path.abspath(__file__)), ".."))
+from reader import Refused
 from sheet import written
 
 BUDGET, NESTING = 1024, 64
-
-
-class Refused(Exception):
-    """A refusal's number and place."""
 
 
 class Sheet:
@@ -346,4 +343,5 @@ def main():
             print("\n".join(answers(sheet)))
 
 
-main()
+if __name__ == "__main__":
+    main()

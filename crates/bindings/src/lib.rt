@@ -9,6 +9,11 @@ ghost use lib.Seq.{sets};
 ghost use Rattle.bindings.specs.Numbers.{numbers, Small, valueOf, bindingAt, found};
 ghost use Rattle.bindings.specs.Stands.{Linked, under};
 
+mod tag;
+
+// The numbers of a stored binding: its value's kind and two parts, and the next binding.
+const WIDTH: usize = 4;
+
 // The phrase of a function or method, and the chain of the bindings where it was written.
 pub struct Closure {
     pub phrase: usize,
@@ -63,11 +68,11 @@ pub fn push(t: &mut [u32], n: usize, b: Binding)
     let next = b.next;
     let value = b.value;
     match value {
-        Value::Prop(p) => words::put4(t, 4 * n, 0, p, 0, next),
-        Value::Constructor(c) => words::put4(t, 4 * n, 1, c, 0, next),
-        Value::Rule(r) => words::put4(t, 4 * n, 2, r, 0, next),
-        Value::Function(f) => words::put4(t, 4 * n, 3, f.phrase, f.env, next),
-        Value::Method(m) => words::put4(t, 4 * n, 4, m.phrase, m.env, next),
+        Value::Prop(p) => words::put4(t, WIDTH * n, tag::PROP, p, 0, next),
+        Value::Constructor(c) => words::put4(t, WIDTH * n, tag::CONSTRUCTOR, c, 0, next),
+        Value::Rule(r) => words::put4(t, WIDTH * n, tag::RULE, r, 0, next),
+        Value::Function(f) => words::put4(t, WIDTH * n, tag::FUNCTION, f.phrase, f.env, next),
+        Value::Method(m) => words::put4(t, WIDTH * n, tag::METHOD, m.phrase, m.env, next),
     }
 }
 
@@ -76,10 +81,10 @@ pub fn load(t: &[u32], j: usize) -> Binding
     requires { ⌜ 4 * j + 4 ≤ length (now t) ⌝ }
     ensures { λ b. ⌜ b ≡ bindingAt (now (t .entry)) j ⌝ }
 {
-    let kind = words::at(t, 4 * j);
-    let a = words::at(t, 4 * j + 1);
-    let b = words::at(t, 4 * j + 2);
-    let next = words::at(t, 4 * j + 3);
+    let kind = words::at(t, WIDTH * j);
+    let a = words::at(t, WIDTH * j + 1);
+    let b = words::at(t, WIDTH * j + 2);
+    let next = words::at(t, WIDTH * j + 3);
     Binding {
         value: value_of(kind, a, b),
         next: next,
@@ -103,16 +108,16 @@ pub fn scope(v: Value) -> usize
 fn value_of(kind: usize, a: usize, b: usize) -> Value
     ensures { λ v. ⌜ v ≡ valueOf kind a b ⌝ }
 {
-    if kind == 0 {
+    if kind == tag::PROP {
         return Value::Prop(a);
     }
-    if kind == 1 {
+    if kind == tag::CONSTRUCTOR {
         return Value::Constructor(a);
     }
-    if kind == 2 {
+    if kind == tag::RULE {
         return Value::Rule(a);
     }
-    if kind == 3 {
+    if kind == tag::FUNCTION {
         return Value::Function(Closure { phrase: a, env: b });
     }
     Value::Method(Closure { phrase: a, env: b })

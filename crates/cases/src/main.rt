@@ -205,13 +205,13 @@ fn case(name: &[u8], sheet: &[u8], budget: usize, room: usize) {
 
 // The answer of the evaluation, and the check of its certificate.
 fn evaluated(out: &mut [u8], sheet: &[u8], budget: usize) {
-    let mut listing = [0u32; 9220];
-    let mut forms = [0u32; 4610];
-    let mut patterns = [0u32; 640];
-    let mut phrases = [0u32; 6144];
-    let mut base = [0u32; 1088];
-    let mut binds = [0u32; 16384];
-    let mut tokens = [0u32; 11264];
+    let mut listing = [0u32; evaluator::LISTING];
+    let mut forms = [0u32; evaluator::FORMS];
+    let mut patterns = [0u32; evaluator::PATTERNS];
+    let mut phrases = [0u32; evaluator::PHRASES];
+    let mut base = [0u32; evaluator::BASE];
+    let mut binds = [0u32; evaluator::BINDINGS];
+    let mut tokens = [0u32; evaluator::TOKENS];
     match evaluator::evaluate(
         sheet,
         budget,
@@ -250,11 +250,11 @@ fn certificate(bytes: &[u8]) {
 
 // The check of a certificate alone against the sheet.
 fn checked(sheet: &[u8], certificate: &[u8]) {
-    let mut names = [0u32; 4608];
-    let mut forms = [0u32; 12290];
-    let mut patterns = [0u32; 640];
-    let mut phrases = [0u32; 6144];
-    let mut base = [0u32; 576];
+    let mut names = [0u32; checker::NAMES];
+    let mut forms = [0u32; checker::FORMS];
+    let mut patterns = [0u32; checker::PATTERNS];
+    let mut phrases = [0u32; checker::PHRASES];
+    let mut base = [0u32; checker::BASE];
     match checker::check(
         sheet,
         certificate,

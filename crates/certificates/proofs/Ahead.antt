@@ -96,7 +96,7 @@ pub record Begins (fs : List Form) (Q : Form → Type 0) (Ds : List Plain) (ts :
   pub ahead : Ahead fs Q names proofs (drop (headBy x y .width) ts)
   pub named : length names ≡ headBy x y .names
   pub lists : (l : List Form) → neededEach Ds l ≡ neededEach proofs (listedAll names l)
-  pub counts : inferencesEach Ds ≡ headBy x y .rules + inferencesEach proofs
+  pub counts : inferencesEach Ds ≡ headBy x y .rules .0 + inferencesEach proofs
   pub writes : (l : List Form) → proofsBytes l Ds ≡ headBytes x y ++ aheadBytes l names proofs
   pub kind : x ≤ 2
   pub ruled : x ≡ 0 → y < 16

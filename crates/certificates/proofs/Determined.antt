@@ -42,6 +42,6 @@ truth-told = record {
 -- its certificate lists true, has the rule and names its conclusion: so an output of six has these five bytes and its own last one
 pub truth-certified : (r : Written) (out : List ℕ) →
     Writes first 2 (0 ∷ (13 ∷ [])) 2 0 (0 ∷ (0 ∷ (0 ∷ (0 ∷ [])))) (9 ∷ (9 ∷ (9 ∷ (9 ∷ (9 ∷ (9 ∷ [])))))) r out →
-    (r ≡ Done 5 1) × (out ≡ 1 ∷ (1 ∷ (0 ∷ (13 ∷ (0 ∷ (9 ∷ []))))))
+    (r ≡ Done 5 (record { 0 = 1 })) × (out ≡ 1 ∷ (1 ∷ (0 ∷ (13 ∷ (0 ∷ (9 ∷ []))))))
 unfolding certificate listing listed listedAll needed records recordOf proofBytes references indexOf groups pick member same fronted inferences truth-told
 truth-certified r out w = let c = w .certified truth-told in (c .answer, c .output)

@@ -101,7 +101,7 @@ module _ (forms : List ℕ) (n : ℕ) (tokens : List ℕ) (m : ℕ) (t₀ : List
   }
 
   module _ (t : List ℕ) (i left count rules : ℕ) (N : Needing forms n tokens m t₀ t i left count rules) where
-    pub needing-end : m ≤ i → Needs forms n tokens m t₀ t (record { count = count; rules = rules })
+    pub needing-end : m ≤ i → Needs forms n tokens m t₀ t (record { count = count; rules = record { 0 = rules } })
     unfolding neededEach listedAll inferencesEach
     needing-end h = record { lists = λ x. lists x (N .at x); counts = λ x. counts x (N .at x) }
       where
@@ -150,8 +150,8 @@ module _ (forms : List ℕ) (n : ℕ) (tokens : List ℕ) (m : ℕ) (t₀ : List
         }
 
       -- where none is to come, the next node begins
-      pub needing-head : left ≤ 0 → (r : Head) → r ≡ headBy (getD tokens i 0) (getD tokens (i + 1) 0) → 1 ≤ r .width → r .rules ≤ 1 →
-          Needing forms n tokens m t₀ t (i + r .width) (r .names) count (rules + r .rules)
+      pub needing-head : left ≤ 0 → (r : Head) → r ≡ headBy (getD tokens i 0) (getD tokens (i + 1) 0) → 1 ≤ r .width → r .rules .0 ≤ 1 →
+          Needing forms n tokens m t₀ t (i + r .width) (r .names) count (rules + r .rules .0)
       unfolding listedAll
       needing-head g r e w k = record {
         few = omega (arith, N .few);
@@ -159,7 +159,7 @@ module _ (forms : List ℕ) (n : ℕ) (tokens : List ℕ) (m : ℕ) (t₀ : List
         at = λ x. go x (N .at x);
       }
         where
-          go : (x : Telling forms n tokens m t₀) → ListingAt (x .trees) (x .proof) forms n tokens m t i left count rules → ListingAt (x .trees) (x .proof) forms n tokens m t (i + r .width) (r .names) count (rules + r .rules)
+          go : (x : Telling forms n tokens m t₀) → ListingAt (x .trees) (x .proof) forms n tokens m t i left count rules → ListingAt (x .trees) (x .proof) forms n tokens m t (i + r .width) (r .names) count (rules + r .rules .0)
           go x L =
               let none : L .names ≡ [] = length-none (L .names) (omega (arith, L .named)) in
               let B = begins-at (x .trees) Any tokens m (x .inside) (L .proofs) i h (subst (λ (ps : List Form). Ahead (x .trees) Any ps (L .proofs) (drop i (take m tokens))) none (L .ahead)) in

@@ -33,11 +33,11 @@ pub record Writing (forms : List ℕ) (n : ℕ) (tokens : List ℕ) (m conclusio
 -- what is needed is listed in its order, the conclusion last
 pub record Orders (forms : List ℕ) (n : ℕ) (tokens : List ℕ) (m conclusion : ℕ) (t₀ t : List ℕ) (r : Needed) : Type 0 where
   pub lists : (x : Writing forms n tokens m conclusion t₀) → Ready forms n (x .trees) (listing (x .derived)) t (r .count)
-  pub counts : (x : Writing forms n tokens m conclusion t₀) → r .rules ≡ inferences (x .derived .proof)
+  pub counts : (x : Writing forms n tokens m conclusion t₀) → r .rules .0 ≡ inferences (x .derived .proof)
 
 -- the certificate of d in front of the output, its length and its inferences; or, where the output is shorter, nothing
 pub record Certified (d : Derived) (out₀ : List ℕ) (r : Written) (out : List ℕ) : Type 0 where
-  pub answer : r ≡ pick (leb (length (certificate d)) (length out₀)) (Done (length (certificate d)) (inferences (d .proof))) Short
+  pub answer : r ≡ pick (leb (length (certificate d)) (length out₀)) (Done (length (certificate d)) (record { 0 = inferences (d .proof) })) Short
   pub output : out ≡ pick (leb (length (certificate d)) (length out₀)) (fronted (certificate d) out₀) out₀
 
 -- whatever the words and tokens tell is certified so

@@ -54,9 +54,9 @@ pub record PartsPlaced (t : List ℕ) (w : ℕ) : Type 0 where
 
 -- how a node begins by its first two tokens: 0 and a rule, whose arguments follow; 1; 2, which one proposition follows
 unfoldable pub headBy : ℕ → ℕ → Head
-headBy zero r = record { width = 2; names = getD arity r 0; rules = 1 }
-headBy (suc zero) r = record { width = 1; names = 0; rules = 0 }
-headBy (suc (suc x)) r = record { width = 1; names = 1; rules = 0 }
+headBy zero r = record { width = 2; names = getD arity r 0; rules = record { 0 = 1 } }
+headBy (suc zero) r = record { width = 1; names = 0; rules = record { 0 = 0 } }
+headBy (suc (suc x)) r = record { width = 1; names = 1; rules = record { 0 = 0 } }
 
 -- the bytes of a node's beginning: its kind, and a rule's number
 unfoldable pub ruleBytes : ℕ → ℕ → List ℕ

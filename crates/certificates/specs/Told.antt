@@ -27,7 +27,7 @@ pub record Telling (forms : List ℕ) (n : ℕ) (tokens : List ℕ) (m : ℕ) (t
 -- what the proof needs is listed, and its rules are counted
 pub record Needs (forms : List ℕ) (n : ℕ) (tokens : List ℕ) (m : ℕ) (t₀ t : List ℕ) (r : Needed) : Type 0 where
   pub lists : (x : Telling forms n tokens m t₀) → Ready forms n (x .trees) (needed (x .proof) []) t (r .count)
-  pub counts : (x : Telling forms n tokens m t₀) → r .rules ≡ inferences (x .proof)
+  pub counts : (x : Telling forms n tokens m t₀) → r .rules .0 ≡ inferences (x .proof)
 
 -- the places of the listing l are in t
 pub record Placing (fs l : List Form) (t : List ℕ) : Type 0 where

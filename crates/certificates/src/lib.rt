@@ -10,24 +10,26 @@ ghost use Rattle.certificates.specs.Marks.{Listable, Lists};
 ghost use Rattle.certificates.specs.Emitted.{Fits, Emitted, placed, Placed, wordBytes, PartsPlaced, headBy, headBytes, HeadFits};
 ghost use Rattle.certificates.specs.Told.{Telling, Needs, Recording, Records, Proving, Proofs, Emitting, Emits};
 ghost use Rattle.certificates.specs.Certified.{Writing, Orders, Writes};
+use language::Inferences;
+use language::node;
 
 // The certificate's length and its inferences; or the output is too short, and untouched.
 pub enum Written {
-    Done(usize, usize),
+    Done(usize, Inferences),
     Short,
 }
 
-// How many propositions are listed, and how many rules the proof has.
+// How many propositions are listed, and the proof's inferences.
 struct Needed {
     count: usize,
-    rules: usize,
+    rules: Inferences,
 }
 
-// How a node begins: with so many tokens, which so many propositions follow; and how many rules it is, one or none.
+// How a node begins: with so many tokens, which so many propositions follow; and its own inferences, one or none.
 struct Head {
     width: usize,
     names: usize,
-    rules: usize,
+    rules: Inferences,
 }
 
 // The certificate of the proof that the first m tokens tell, over the first n words of the table, in front of the output.
@@ -68,7 +70,8 @@ pub fn write(
             conclusion,
             true,
         );
-        return Written::Done(length, needed.rules);
+        let rules = needed.rules;
+        return Written::Done(length, rules);
     }
     Written::Short
 }
@@ -88,9 +91,10 @@ fn order(
     words::wipe(listing, n);
     let needed = list_needed(listing, forms, n, tokens, m);
     let count = list(listing, forms, n, needed.count, conclusion);
+    let rules = needed.rules;
     Needed {
         count: count,
-        rules: needed.rules,
+        rules: rules,
     }
 }
 
@@ -102,7 +106,7 @@ fn list_needed(listing: &mut [u32], forms: &[u32], n: usize, tokens: &[u32], m: 
     let mut i = 0;
     let mut left = 0;
     let mut count = 0;
-    let mut rules = 0;
+    let mut rules = Inferences(0);
     while i < m {
         if 0 < left {
             count = list(listing, forms, n, count, words::at(tokens, i));
@@ -111,7 +115,8 @@ fn list_needed(listing: &mut [u32], forms: &[u32], n: usize, tokens: &[u32], m: 
         } else {
             let head = head_of(tokens, i);
             left = head.names;
-            rules += head.rules;
+            let counted = rules.0 + head.rules.0;
+            rules = Inferences(counted);
             i += head.width;
         }
     }
@@ -155,27 +160,27 @@ fn enter(listing: &mut [u32], n: usize, k: usize, p: usize) -> usize
 // How the node at a place of the tokens begins.
 fn head_of(tokens: &[u32], i: usize) -> Head
     requires { ⌜ i ≤ 16384 ⌝ }
-    ensures { λ r. ⌜ (r ≡ headBy (getD (now (tokens .entry)) i 0) (getD (now (tokens .entry)) (i + 1) 0)) × (1 ≤ r .width) × (r .width ≤ 2) × (r .rules ≤ 1) ⌝ }
+    ensures { λ r. ⌜ (r ≡ headBy (getD (now (tokens .entry)) i 0) (getD (now (tokens .entry)) (i + 1) 0)) × (1 ≤ r .width) × (r .width ≤ 2) × (r .rules .0 ≤ 1) ⌝ }
 {
     let token = words::at(tokens, i);
-    if token == 0 {
+    if token == node::RULE {
         return Head {
             width: 2,
             names: language::arguments(words::at(tokens, i + 1)),
-            rules: 1,
+            rules: Inferences(1),
         };
     }
-    if token == 1 {
+    if token == node::SEQUENCE {
         return Head {
             width: 1,
             names: 0,
-            rules: 0,
+            rules: Inferences(0),
         };
     }
     Head {
         width: 1,
         names: 1,
-        rules: 0,
+        rules: Inferences(0),
     }
 }
 
@@ -280,7 +285,7 @@ fn emit_head(out: &mut [u8], tokens: &[u32], i: usize, at: usize, writes: bool) 
 {
     let token = words::at(tokens, i);
     let next = emit_number(out, at, token, writes);
-    if token == 0 {
+    if token == node::RULE {
         return emit_number(out, next, words::at(tokens, i + 1), writes);
     }
     next

@@ -8,7 +8,7 @@ use Rattle.language.specs.Syntax.{Sheet}
 use Rattle.language.specs.Numbers.{Got, got, no, then, from, times}
 use Rattle.language.specs.Read.{proposition}
 use Rattle.language.specs.Check.{Certificate, certificate-at, own, concluded, falls, stated, checked}
-use Rattle.checker.specs.declared.ProofRead.the-variants as proof
+use Rattle.checker.specs.declared.reading.ProofRead.the-variants as proof
 use Rattle.checker.specs.Tally.{proofAt, ownNumber, certified}
 use Rattle.rules.specs.Base.{Alike}
 use Rattle.checker.proofs.Bases.{concluded-alike}

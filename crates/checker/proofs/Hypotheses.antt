@@ -16,8 +16,8 @@ use Rattle.forms.specs.Table.{tree, formed}
 use Rattle.forms.proofs.Interning.{sized}
 use Rattle.forms.proofs.Growth.{after}
 use Rattle.rules.specs.Base.{baseOf}
-use Rattle.checker.specs.declared.Walked.{Walked}
-use Rattle.checker.specs.declared.Walked.the-variants.{Concluded, Refused}
+use Rattle.checker.specs.declared.walking.Walked.{Walked}
+use Rattle.checker.specs.declared.walking.Walked.the-variants.{Concluded, Refused}
 use Rattle.checker.specs.Places.{nextAt, nameAt}
 use Rattle.checker.specs.Walk.{nodeAt, underAt, Setting, Room, Awaits, Derived, Meets, Walks}
 use Rattle.checker.proofs.Nodes.{Under, under-read, node-counts}

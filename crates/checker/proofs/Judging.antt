@@ -15,14 +15,13 @@ use Rattle.language.specs.Plain.{inferences}
 use Rattle.language.specs.Check.{Node, plain, Counted, node, Certificate, concluded, stands, falls, stated}
 use Rattle.language.specs.Doors.{checkedNumbers, verdictNumbers}
 use Rattle.language.specs.declared.Checked.the-variants.{Stands, Falls}
-use Rattle.language.specs.declared.Inferences.{Inferences}
 use Rattle.numbers.proofs.Bounds.{then-got, check-got, below-got}
 use Rattle.forms.specs.Table.{tree}
 use Rattle.forms.proofs.Trees.{same-at}
 use Rattle.rules.specs.Base.{baseOf}
-use Rattle.checker.specs.declared.Stated.{Stated}
-use Rattle.checker.specs.declared.ProofRead.the-variants as proof
-use Rattle.checker.specs.declared.Walked.the-variants.{Concluded, Refused}
+use Rattle.checker.specs.declared.reading.Stated.{Stated}
+use Rattle.checker.specs.declared.reading.ProofRead.the-variants as proof
+use Rattle.checker.specs.declared.walking.Walked.the-variants.{Concluded, Refused}
 use Rattle.checker.specs.Walk.{nodeAt, Setting, Room, Awaits, Meets, Walks}
 use Rattle.checker.specs.Tally.{proofAt, certified}
 use Rattle.checker.specs.Judge.{Stating, Judged}
@@ -57,7 +56,7 @@ proved s ps at C end e =
     }
 
 -- what is stated is the certificate's
-said-is : (c : Stated) (C : Certificate) (end : ℕ) (g : Got Certificate) → g ≡ got C end → proof.Read c ≡ certified g → c ≡ record { rules = inferences (plain (C .proof)); conclusion = C .conclusion; place = C .place }
+said-is : (c : Stated) (C : Certificate) (end : ℕ) (g : Got Certificate) → g ≡ got C end → proof.Read c ≡ certified g → c ≡ record { rules = record { 0 = inferences (plain (C .proof)) }; conclusion = C .conclusion; place = C .place }
 unfolding certified
 said-is c C end g e f = let h = rw e at f in cc
 
@@ -136,27 +135,27 @@ module _ (t base s names : List ℕ) (n b at : ℕ) (c : Stated) (long : n + 716
           let x : tree (fs ++ D .more) (getD names (P .k) 0) ≡ getD ps (P .k) verum = old-trees t u n k fs (D .more) (S .table) (D .table) (omega arith) f (getD names (P .k) 0) (w .0) ∙ w .1 in
           rw (← D .is, ← x) (same-at (take k u) (fs ++ D .more) (D .table) p (getD names (P .k) 0) (omega arith) (omega arith))
 
-      what-is-said : (c .rules ≡ inferences (plain (P .root .node))) × (c .conclusion ≡ P .k) × (c .place ≡ P .place)
+      what-is-said : (c .rules .0 ≡ inferences (plain (P .root .node))) × (c .conclusion ≡ P .k) × (c .place ≡ P .place)
       what-is-said =
           let z = said-is c C end (proofAt s ps at) e said in
           let y = P .is in (
-            ap (λ (v : Stated). v .rules) z ∙ ap (λ (v : Certificate). inferences (plain (v .proof))) y,
+            ap (λ (v : Stated). v .rules .0) z ∙ ap (λ (v : Certificate). inferences (plain (v .proof))) y,
             ap (λ (v : Stated). v .conclusion) z ∙ ap (λ (v : Certificate). v .conclusion) y,
             ap (λ (v : Stated). v .place) z ∙ ap (λ (v : Certificate). v .place) y,
           )
 
-      answered : (v : Bool) → eqb p (getD names (c .conclusion) 0) ≡ v → verdictNumbers (stated C (concluded (baseOf fs base b) (C .proof))) ≡ verdictNumbers (pick v (stands (c .conclusion) (c .rules)) (falls stated-differs (c .place)))
+      answered : (v : Bool) → eqb p (getD names (c .conclusion) 0) ≡ v → verdictNumbers (stated C (concluded (baseOf fs base b) (C .proof))) ≡ verdictNumbers (pick v (stands (c .conclusion) (c .rules .0)) (falls stated-differs (c .place)))
       answered v h =
           let w = what-is-said in
           let x : same (derived .q) (getD ps (P .k) verum) ≡ v = same-number ∙ ap (λ (j : ℕ). eqb p (getD names j 0)) (sym (w .1)) ∙ h in
           ap (λ (D : Certificate). verdictNumbers (stated D (concluded (baseOf fs base b) (D .proof)))) (P .is)
           ∙ ap (λ (g : Got Form). verdictNumbers (stated (record { forms = ps; proof = P .root .node; conclusion = P .k; place = P .place }) g)) (derived .is)
-          ∙ ap verdictNumbers (stated-is ps (P .root .node) (P .k) (P .place) (derived .q) (derived .at) v (c .rules) (c .conclusion) (c .place) x (w .0) (w .1) (w .2))
+          ∙ ap verdictNumbers (stated-is ps (P .root .node) (P .k) (P .place) (derived .q) (derived .at) v (c .rules .0) (c .conclusion) (c .place) x (w .0) (w .1) (w .2))
 
-    pub judge-stands : (v : ℕ) (i : Inferences) → v ≡ getD names (c .conclusion) 0 → p ≡ v → i .0 ≡ c .rules → Judged t base s names n b at c (Stands (c .conclusion) i)
+    pub judge-stands : (v : ℕ) → v ≡ getD names (c .conclusion) 0 → p ≡ v → Judged t base s names n b at c (Stands (c .conclusion) (c .rules))
     unfolding checkedNumbers verdictNumbers pick
-    judge-stands v i f g h =
-        record { answers = λ fs ps S said C end e. rw h (sym (answered fs ps S said C end e true (eq-eqb p (getD names (c .conclusion) 0) (g ∙ f)))) }
+    judge-stands v f g =
+        record { answers = λ fs ps S said C end e. sym (answered fs ps S said C end e true (eq-eqb p (getD names (c .conclusion) 0) (g ∙ f))) }
 
     pub judge-differs : (v : ℕ) → v ≡ getD names (c .conclusion) 0 → (p ≡ v → ⊥) → Judged t base s names n b at c (Falls stated-differs (c .place))
     unfolding checkedNumbers verdictNumbers pick

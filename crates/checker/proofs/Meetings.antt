@@ -8,8 +8,8 @@ use lib.ListN.{set, take}
 use lib.Seq.{take-set-le, take-take}
 use Rattle.language.specs.Form.{Form}
 use Rattle.language.specs.Numbers.{Got, got, no, then}
-use Rattle.checker.specs.declared.Walked.{Walked}
-use Rattle.checker.specs.declared.Walked.the-variants.{Concluded, Refused}
+use Rattle.checker.specs.declared.walking.Walked.{Walked}
+use Rattle.checker.specs.declared.walking.Walked.the-variants.{Concluded, Refused}
 use Rattle.checker.specs.Walk.{Setting, Derived, Meets}
 
 -- less room on the stack

@@ -6,7 +6,7 @@ use native.Mathlib.Omega.{arith}
 use Rattle.language.specs.Form.{Form}
 use Rattle.language.specs.Numbers.{got}
 use Rattle.language.specs.Check.{Counted}
-use Rattle.checker.specs.declared.Walked.{Walked}
+use Rattle.checker.specs.declared.walking.Walked.{Walked}
 use Rattle.checker.specs.Places.{valueAt, nextAt}
 use Rattle.checker.specs.Walk.{Reading, nodeAt, ruleAt, twoAt, underAt, Awaits, Walks}
 use Rattle.checker.proofs.Nodes.{node-rule, node-two, node-under, node-deep}

@@ -26,8 +26,8 @@ use Rattle.reader.specs.Laid.{Propositions}
 use Rattle.reader.specs.Stands.{Named}
 use Rattle.reader.proofs.PropSaying.{NamedAs, named-said, named-refused, naming-says}
 use Rattle.rules.specs.Base.{baseOf}
-use Rattle.checker.specs.declared.Stated.{Stated}
-use Rattle.checker.specs.declared.ProofRead.the-variants as proof
+use Rattle.checker.specs.declared.reading.Stated.{Stated}
+use Rattle.checker.specs.declared.reading.ProofRead.the-variants as proof
 use Rattle.checker.specs.Walk.{Setting}
 use Rattle.checker.specs.Tally.{proofAt, ownNumber, certified}
 use Rattle.checker.specs.Judge.{Judged}

@@ -20,8 +20,8 @@ use Rattle.rules.specs.declared.Applied.{Applied}
 use Rattle.rules.specs.Base.{baseOf}
 use Rattle.theorems.proofs.Arguments.{three, ruled-at}
 use Rattle.rules.specs.Applied.{Ready, whether, outcome, Comes, Ruling}
-use Rattle.checker.specs.declared.Arguments.{Arguments}
-use Rattle.checker.specs.declared.Walked.{Walked}
+use Rattle.checker.specs.declared.walking.Arguments.{Arguments}
+use Rattle.checker.specs.declared.walking.Walked.{Walked}
 use Rattle.checker.specs.Places.{valueAt, nextAt, nameAt, nameIf, nextIf, argumentsAt}
 use Rattle.checker.specs.Walk.{ruleAt, Setting, Room, Awaits, walkedOf, Meets, Walks}
 use Rattle.checker.proofs.Readings.{got-both, number-got}

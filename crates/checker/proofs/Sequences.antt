@@ -8,8 +8,8 @@ use Rattle.language.specs.Form.{Form}
 use Rattle.language.specs.Numbers.{got, then}
 use Rattle.language.specs.Check.{Counted, node, concluded}
 use Rattle.rules.specs.Base.{baseOf}
-use Rattle.checker.specs.declared.Walked.{Walked}
-use Rattle.checker.specs.declared.Walked.the-variants.{Concluded, Refused}
+use Rattle.checker.specs.declared.walking.Walked.{Walked}
+use Rattle.checker.specs.declared.walking.Walked.the-variants.{Concluded, Refused}
 use Rattle.checker.specs.Walk.{nodeAt, twoAt, Setting, Room, Awaits, Meets, Walks}
 use Rattle.checker.proofs.Nodes.{Two, two-read, node-counts}
 use Rattle.checker.proofs.Stacks.{pushed, pushed-base, more-words, old-trees}

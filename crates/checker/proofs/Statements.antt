@@ -11,14 +11,15 @@ use Rattle.language.specs.Form.{Form}
 use Rattle.language.specs.Numbers.{Got, got, no, then, check, below}
 use Rattle.language.specs.Plain.{inferences}
 use Rattle.language.specs.Check.{Node, plain, node, Certificate}
-use Rattle.checker.specs.declared.NodesRead.the-variants as nodes
-use Rattle.checker.specs.declared.ProofRead.{ProofRead}
-use Rattle.checker.specs.declared.ProofRead.the-variants as proof
+use Rattle.language.specs.declared.Inferences.{Inferences}
+use Rattle.checker.specs.declared.reading.NodesRead.the-variants as nodes
+use Rattle.checker.specs.declared.reading.ProofRead.{ProofRead}
+use Rattle.checker.specs.declared.reading.ProofRead.the-variants as proof
 use Rattle.checker.specs.Tally.{tallied, proofAt, endedBy, concludedBy, concludedAt, certified}
 use Rattle.checker.proofs.Tallies.{tally-read, tally-refused}
 
 -- the conclusion's number, and the end
-module _ (s : List ℕ) (count rules at : ℕ) where
+module _ (s : List ℕ) (count : ℕ) (rules : Inferences) (at : ℕ) where
   pub conclusion-refused : (w p : ℕ) → below count s at ≡ no w p → proof.Refused w p ≡ concludedAt s count rules at
   unfolding concludedAt concludedBy
   conclusion-refused w p e = rw e
@@ -33,7 +34,7 @@ module _ (s : List ℕ) (count rules at : ℕ) where
     conclusion-goes-on h = rw (e, ne-eqb end (length s) h)
 
 -- what is stated, by whether the bytes end there
-module _ (ps : List Form) (x : Node) (rules place bytes : ℕ) (e : inferences (plain x) ≡ rules) where
+module _ (ps : List Form) (x : Node) (rules : Inferences) (place bytes : ℕ) (e : inferences (plain x) ≡ rules .0) where
   abbrev stating : ℕ → ℕ → Got Certificate
   stating k end = got (record { forms = ps; proof = x; conclusion = k; place = place }) end
 
@@ -53,7 +54,7 @@ module _ (s : List ℕ) (ps : List Form) (count at : ℕ) (l : length ps ≡ cou
   unfolding proofAt then certified
   proof-refused w p f = rw (tally-refused (node 512 s ps 0 at) w p f)
 
-  pub proof-read : (all rules place : ℕ) (r : ProofRead) → nodes.Read all rules place ≡ tallied (node 512 s ps 0 at) → r ≡ concludedAt s count rules place → r ≡ certified (proofAt s ps at)
+  pub proof-read : (all : ℕ) (rules : Inferences) (place : ℕ) (r : ProofRead) → nodes.Read all rules place ≡ tallied (node 512 s ps 0 at) → r ≡ concludedAt s count rules place → r ≡ certified (proofAt s ps at)
   unfolding proofAt then concludedAt
   proof-read all rules place r f g =
       let T = tally-read (node 512 s ps 0 at) all rules place f in

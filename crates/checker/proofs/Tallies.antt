@@ -12,9 +12,10 @@ use Rattle.language.specs.Numbers.{Got, got, no, then, check, from, below, time
 use Rattle.language.specs.Read.{reference}
 use Rattle.language.specs.Plain.{inferences}
 use Rattle.language.specs.Check.{plain, Counted, underN, ReadNode, ruleNode, inner, node}
+use Rattle.language.specs.declared.Inferences.{Inferences}
 use Rattle.numbers.specs.declared.Number.the-variants as number
-use Rattle.checker.specs.declared.NodesRead.{NodesRead}
-use Rattle.checker.specs.declared.NodesRead.the-variants as nodes
+use Rattle.checker.specs.declared.reading.NodesRead.{NodesRead}
+use Rattle.checker.specs.declared.reading.NodesRead.the-variants as nodes
 use Rattle.checker.specs.Places.{valueAt, nextAt}
 use Rattle.checker.specs.Walk.{restBy, twoAt, underAt}
 use Rattle.checker.specs.Tally.{referred, tallied}
@@ -25,13 +26,13 @@ never : {A : Type 0} → _≡_ {A = ℕ} 0 1 → A
 never e = absurd (omega arith)
 
 -- what a tally tells of the reading behind it
-pub record Tally (g : Got Counted) (count rules next : ℕ) : Type 0 where
+pub record Tally (g : Got Counted) (count : ℕ) (rules : Inferences) (next : ℕ) : Type 0 where
   pub counted : Counted
   pub is : g ≡ got counted next
   pub nodes : counted .nodes ≡ count
-  pub inferred : inferences (plain (counted .node)) ≡ rules
+  pub inferred : inferences (plain (counted .node)) ≡ rules .0
 
-pub tally-read : (g : Got Counted) (count rules next : ℕ) → nodes.Read count rules next ≡ tallied g → Tally g count rules next
+pub tally-read : (g : Got Counted) (count : ℕ) (rules : Inferences) (next : ℕ) → nodes.Read count rules next ≡ tallied g → Tally g count rules next
 unfolding tallied
 tally-read (got c m) count rules next e =
     let z : m ≡ next = cc in
@@ -113,7 +114,7 @@ module _ (s : List ℕ) (used a : ℕ) where
         let h = rw ek at g in
         rw (e, h)
 
-    pub rule-tallied : (v end : ℕ) → number.Got v end ≡ referred k (times k (λ acc. reference s ps) [] next) → nodes.Read (used + 1) 1 end ≡ tallied (ruleNode s ps used at a)
+    pub rule-tallied : (v end : ℕ) → number.Got v end ≡ referred k (times k (λ acc. reference s ps) [] next) → nodes.Read (used + 1) (record { 0 = 1 }) end ≡ tallied (ruleNode s ps used at a)
     unfolding ruleNode then tallied inferences plain
     rule-tallied v end f =
         let g = referred-read k (times k (λ acc. reference s ps) [] next) v end f in
@@ -167,7 +168,7 @@ module _ (d : ℕ) (s : List ℕ) (ps : List Form) (used a : ℕ) where
   unfolding twoAt then tallied
   first-refused w p f = rw (tally-refused (node d s ps (used + 1) a) w p f)
 
-  module _ (count rules next : ℕ) (f : nodes.Read count rules next ≡ tallied (node d s ps (used + 1) a)) where
+  module _ (count : ℕ) (rules : Inferences) (next : ℕ) (f : nodes.Read count rules next ≡ tallied (node d s ps (used + 1) a)) where
     pub second-refused : (w p : ℕ) → nodes.Refused w p ≡ tallied (node d s ps count next) → nodes.Refused w p ≡ tallied (twoAt d s a ps used)
     unfolding twoAt then tallied
     second-refused w p g =
@@ -175,7 +176,7 @@ module _ (d : ℕ) (s : List ℕ) (ps : List Form) (used a : ℕ) where
         let y = tally-refused (node d s ps count next) w p g in
         rw (x .is, x .nodes, y)
 
-    pub two-tallied : (all more end : ℕ) → nodes.Read all more end ≡ tallied (node d s ps count next) → nodes.Read all (rules + more) end ≡ tallied (twoAt d s a ps used)
+    pub two-tallied : (all : ℕ) (more : Inferences) (end : ℕ) → nodes.Read all more end ≡ tallied (node d s ps count next) → nodes.Read all (record { 0 = rules .0 + more .0 }) end ≡ tallied (twoAt d s a ps used)
     unfolding twoAt then tallied inferences plain
     two-tallied all more end g =
         let x = tally-read (node d s ps (used + 1) a) count rules next f in
@@ -236,7 +237,7 @@ node-within (suc d) s ps used at c next e =
     rest-within d s ps (node-within d s ps) used at c next (valueAt s at) (nextAt s at) (o .limit) (o .kind) f
 
 -- a tally over every listing of a length is one of some listing
-pub rules-few : (d : ℕ) (s : List ℕ) (length-is used at count rules next : ℕ) → ((ps : List Form) → length ps ≡ length-is → nodes.Read count rules next ≡ tallied (node d s ps used at)) → rules ≤ 7168
+pub rules-few : (d : ℕ) (s : List ℕ) (length-is used at count : ℕ) (rules : Inferences) (next : ℕ) → ((ps : List Form) → length ps ≡ length-is → nodes.Read count rules next ≡ tallied (node d s ps used at)) → rules .0 ≤ 7168
 rules-few d s n used at count rules next h =
     let ps : List Form = replicate n verum in
     let x = tally-read (node d s ps used at) count rules next (h ps (length-replicate n verum)) in

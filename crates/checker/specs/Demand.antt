@@ -5,7 +5,7 @@ use mathlib.Core.Bool.{true}
 use mathlib.Core.List.{List, [], _∷_}
 use mathlib.Core.Logic.{_↔_}
 use lib.ListN.{length, getD}
-use Rattle.language.specs.Form.{verum, State, holds, holdsAll}
+use Rattle.language.specs.Form.{falsum, State, holds, holdsAll}
 use Rattle.language.specs.Syntax.{Sheet}
 use Rattle.language.specs.Numbers.{got}
 use Rattle.language.specs.Read.{sheet}
@@ -23,7 +23,7 @@ Check-exactly =
     enough checkLengths (scratch ns₀ fs₀ ps₀ hs₀ bs₀) ≡ true → (S : Sheet) (end k i : ℕ) → sheet s ≡ got S end →
     (checkedNumbers r ≡ 0 ∷ (k ∷ (i ∷ [])))
     ↔ ((c : Certificate) × (certificate-at bytes ≡ got c (length bytes)) × (c .conclusion ≡ k)
-    × Proves (S .base) (plain (c .proof)) (getD (c .forms) k verum) × (i ≡ inferences (plain (c .proof))))
+    × Proves (S .base) (plain (c .proof)) (getD (c .forms) k falsum) × (i ≡ inferences (plain (c .proof))))
 
 -- and then the conclusion is true in every valve state that makes the sheet's base true
 unfoldable pub Check-true : Type 0
@@ -32,4 +32,4 @@ Check-true =
     enough checkLengths (scratch ns₀ fs₀ ps₀ hs₀ bs₀) ≡ true → (S : Sheet) (end k i : ℕ) → sheet s ≡ got S end →
     checkedNumbers r ≡ 0 ∷ (k ∷ (i ∷ [])) →
     (c : Certificate) × (certificate-at bytes ≡ got c (length bytes))
-    × ((σ : State) → holdsAll σ (S .base) ≡ true → holds σ (getD (c .forms) k verum) ≡ true)
+    × ((σ : State) → holdsAll σ (S .base) ≡ true → holds σ (getD (c .forms) k falsum) ≡ true)

@@ -9,8 +9,8 @@ use Rattle.language.specs.Check.{Certificate, concluded, stated}
 use Rattle.language.specs.Doors.{checkedNumbers, verdictNumbers}
 use Rattle.language.specs.declared.Checked.{Checked}
 use Rattle.rules.specs.Base.{baseOf}
-use Rattle.checker.specs.declared.Stated.{Stated}
-use Rattle.checker.specs.declared.ProofRead.the-variants as proof
+use Rattle.checker.specs.declared.reading.Stated.{Stated}
+use Rattle.checker.specs.declared.reading.ProofRead.the-variants as proof
 use Rattle.checker.specs.Walk.{Setting}
 use Rattle.checker.specs.Tally.{proofAt, certified}
 

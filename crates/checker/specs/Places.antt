@@ -5,7 +5,7 @@ use mathlib.Core.List.{List}
 use lib.ListN.{getD}
 use lib.Dec.{ltb}
 use Rattle.language.specs.Numbers.{Got, got, no, number}
-use Rattle.checker.specs.declared.Arguments.{Arguments}
+use Rattle.checker.specs.declared.walking.Arguments.{Arguments}
 
 -- a reading's value, 0 where there is none
 unfoldable pub valueOf : Got ℕ → ℕ

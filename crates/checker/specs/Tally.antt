@@ -8,24 +8,29 @@ use Rattle.language.specs.Refusals.{bytes-after, in-certificate}
 use Rattle.language.specs.Form.{Form}
 use Rattle.language.specs.Numbers.{Got, got, no, then, check, pick, below}
 use Rattle.language.specs.Plain.{inferences}
-use Rattle.language.specs.Check.{plain, Counted, node, Certificate}
+use Rattle.language.specs.Check.{Node, plain, Counted, node, Certificate}
+use Rattle.language.specs.declared.Inferences.{Inferences}
 use Rattle.numbers.specs.declared.Number.{Number}
 use Rattle.numbers.specs.declared.Number.the-variants as number
-use Rattle.checker.specs.declared.NodesRead.{NodesRead}
-use Rattle.checker.specs.declared.NodesRead.the-variants as nodes
-use Rattle.checker.specs.declared.Stated.{Stated}
-use Rattle.checker.specs.declared.ProofRead.{ProofRead}
-use Rattle.checker.specs.declared.ProofRead.the-variants as proof
+use Rattle.checker.specs.declared.reading.NodesRead.{NodesRead}
+use Rattle.checker.specs.declared.reading.NodesRead.the-variants as nodes
+use Rattle.checker.specs.declared.reading.Stated.{Stated}
+use Rattle.checker.specs.declared.reading.ProofRead.{ProofRead}
+use Rattle.checker.specs.declared.reading.ProofRead.the-variants as proof
 
 -- k references in a row, and where they end
 unfoldable pub referred : ℕ → Got (List Form) → Number
 referred k (got xs next) = number.Got k next
 referred k (no why place) = number.Refused why place
 
--- a node that was read: the nodes read with it, its rules, and where it ends
+-- a node's inferences: the rules of its plain proof
+abbrev pub inferred : Node → Inferences
+inferred x = record { 0 = inferences (plain x) }
+
+-- a node that was read: the nodes read with it, its inferences, and where it ends
 unfoldable pub tallied : Got Counted → NodesRead
 unfolding inferences plain
-tallied (got c next) = nodes.Read (c .nodes) (inferences (plain (c .node))) next
+tallied (got c next) = nodes.Read (c .nodes) (inferred (c .node)) next
 tallied (no why place) = nodes.Refused why place
 
 -- what follows the listed propositions of a certificate: the proof and the number of the conclusion, and nothing after it
@@ -41,20 +46,20 @@ unfoldable pub endedBy : Bool → ℕ → Stated → ProofRead
 endedBy true end c = proof.Read c
 endedBy false end c = proof.Refused bytes-after end
 
--- the number of a conclusion, after a proof of so many rules
-unfoldable pub concludedBy : ℕ → ℕ → ℕ → Got ℕ → ProofRead
+-- the number of a conclusion, after a proof of so many inferences
+unfoldable pub concludedBy : Inferences → ℕ → ℕ → Got ℕ → ProofRead
 unfolding endedBy
 concludedBy rules at bytes (got k end) = endedBy (eqb end bytes) end (record { rules = rules; conclusion = k; place = at })
 concludedBy rules at bytes (no why place) = proof.Refused why place
 
-unfoldable pub concludedAt : List ℕ → ℕ → ℕ → ℕ → ProofRead
+unfoldable pub concludedAt : List ℕ → ℕ → Inferences → ℕ → ProofRead
 unfolding concludedBy below
 concludedAt s count rules at = concludedBy rules at (length s) (below count s at)
 
--- a proof and a conclusion that were read: the rules, the conclusion's number and its place
+-- a proof and a conclusion that were read: the inferences, the conclusion's number and its place
 unfoldable pub certified : Got Certificate → ProofRead
 unfolding inferences plain
-certified (got c end) = proof.Read (record { rules = inferences (plain (c .proof)); conclusion = c .conclusion; place = c .place })
+certified (got c end) = proof.Read (record { rules = inferred (c .proof); conclusion = c .conclusion; place = c .place })
 certified (no why place) = proof.Refused why place
 
 -- a refusal's number where it is met in a certificate's bytes: 3 to 7 are 35 to 39

@@ -3,7 +3,7 @@ use Prim.Native.Nat.{ℕ, _+_, _<_, _≤_}
 use mathlib.Core.Path.{_≡_}
 use mathlib.Core.List.{List, _++_}
 use lib.ListN.{length, getD, take}
-use Rattle.language.specs.Refusals.{out-of-range, wrong-shapes, premise-missing}
+use Rattle.language.specs.Refusals.{out-of-range}
 use Rattle.language.specs.Form.{Form, verum}
 use Rattle.language.specs.Numbers.{Got, got, no, then}
 use Rattle.language.specs.Read.{reference}
@@ -12,8 +12,9 @@ use Rattle.forms.specs.Table.{tree, Table}
 use Rattle.rules.specs.Base.{baseOf}
 use Rattle.rules.specs.declared.Applied.{Applied}
 use Rattle.rules.specs.declared.Applied.the-variants.{Given, Misshapen, Missing}
-use Rattle.checker.specs.declared.Walked.{Walked}
-use Rattle.checker.specs.declared.Walked.the-variants.{Concluded, Refused}
+use Rattle.rules.specs.Applied.{appliedNumber}
+use Rattle.checker.specs.declared.walking.Walked.{Walked}
+use Rattle.checker.specs.declared.walking.Walked.the-variants.{Concluded, Refused}
 
 -- reading a node, or its rest, over a listing and after so many nodes
 abbrev pub Reading : Type 0
@@ -80,8 +81,8 @@ pub record Derived (t : List ℕ) (fs : List Form) (n used nodes p k : ℕ) (q :
 -- a rule's answer as its node's
 unfoldable pub walkedOf : ℕ → ℕ → Applied → Walked
 walkedOf at next (Given p m) = Concluded p next m
-walkedOf at next Misshapen = Refused wrong-shapes at
-walkedOf at next Missing = Refused premise-missing at
+walkedOf at next Misshapen = Refused (appliedNumber Misshapen) at
+walkedOf at next Missing = Refused (appliedNumber Missing) at
 
 -- a walk that ends at `next` answers what the definition concludes
 abbrev pub Meets : List ℕ → List Form → ℕ → ℕ → ℕ → ℕ → Walked → Got Form → Type 0

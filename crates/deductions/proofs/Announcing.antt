@@ -23,7 +23,7 @@ use Rattle.expressions.specs.Machine.{Shared, mk as mkE, done, refused as refus
 use Rattle.expressions.specs.Asked.{Text, Row, Ready as ReadyE}
 use Rattle.expressions.specs.Meets.{Evaluated}
 use Rattle.deductions.specs.declared.Conclusion.{Conclusion}
-use Rattle.deductions.specs.Machine.{M, inner, work, bound, moved, concluded, refused, outOf, comparedBy, comparedOf}
+use Rattle.deductions.specs.Machine.{M, inner, remaining, bound, moved, concluded, refused, outOf, comparedBy, comparedOf}
 use Rattle.deductions.specs.Asked.{In, Setting, Ready}
 use Rattle.deductions.specs.Meets.{Grew, Meets, Deduced, Stepped}
 use Rattle.deductions.proofs.Sorts.{proposition, no-proposition}
@@ -31,7 +31,7 @@ use Rattle.deductions.proofs.Growth.{used, setting-grew, room-grew, les
 use Rattle.deductions.proofs.Rows.{step-is, says-by, by-rows, expression-row}
 use Rattle.deductions.proofs.Got.{ran, ran-refused, Proved, proved, refusal}
 use Rattle.deductions.proofs.Lets.{ready-less}
-use Rattle.deductions.proofs.Hypotheses.{concluded-by}
+use Rattle.deductions.proofs.Supposing.{concluded-by}
 
 -- an expression may be evaluated where a run may go on
 pub ready-expression : (G : Text → Type 0) (s : Shared) (m : M) (env b j A C T U : ℕ) (r : Ready G s m env b A C T U) → Row (r .text) j → ReadyE s (inner m) env j 0 0
@@ -57,7 +57,7 @@ pub ready-proved : (G : Text → Type 0) (s : Shared) (d env b j p A C T U : ℕ
     → (q : Ready G s m₁ env b A C T U) × (q .text ≡ r .text)
 ready-proved G s d env b j p A C T U m m₁ r row D =
     let x = r .text in let fs = r .formed in let e = r .bindings in let β = r .basis in
-    let P = proved 0 0 0 b m m₁ fs p (deduce (x .phrases) d e β j (work m)) (D .meets x fs e β (r .setting) row) in
+    let P = proved 0 0 0 b m m₁ fs p (deduce (x .phrases) d e β j (remaining m)) (D .meets x fs e β (r .setting) row) in
     let g = P .grew in
     let w = less 0 0 0 b m m₁ fs (P .more) (P .told) g (omega arith) in (
       record {
@@ -77,9 +77,9 @@ module _ (s : Shared) (d env b k f j : ℕ) (m : M) (is : kind (s .phrases) k �
   then x e y w₁ = next (evaluate (x .phrases) d e f w₁) (λ v w₂. asForm v k (λ P. must (same P (y .conclusion)) announced-differs k (out y w₂)))
 
   by-step : (x : Text) (fs : List Form) (e : Env) (β : List Form) → Setting x fs e β s m env b → In k x →
-      deduceStep (x .phrases) (evaluate (x .phrases) d) (deduce (x .phrases) d) e β k (work m) ≡ next (deduce (x .phrases) d e β j (work m)) (then x e)
+      deduceStep (x .phrases) (evaluate (x .phrases) d) (deduce (x .phrases) d) e β k (remaining m) ≡ next (deduce (x .phrases) d e β j (remaining m)) (then x e)
   unfolding deduced
-  by-step x fs e β S l = step-is (x .phrases) (evaluate (x .phrases) d) (deduce (x .phrases) d) e β k (work m) _ (says-by x fs s (inner m) (S .world) k l is) ∙ rw (fi, ji)
+  by-step x fs e β S l = step-is (x .phrases) (evaluate (x .phrases) d) (deduce (x .phrases) d) e β k (remaining m) _ (says-by x fs s (inner m) (S .world) k l is) ∙ rw (fi, ji)
 
   row-f : (x : Text) (fs : List Form) (e : Env) (β : List Form) → Setting x fs e β s m env b → In k x → Row x f
   row-f x fs e β S l = rw fi (by-rows x fs s (inner m) (S .world) k l is .0)
@@ -101,12 +101,12 @@ module _ (s : Shared) (d env b k f j : ℕ) (m : M) (is : kind (s .phrases) k �
   pub by-fails : (n y : ℕ) → Deduced s d env b j m (refused n y) → Stepped s d env b k m (refused n y)
   unfolding Meets next
   by-fails n y D = record {
-    meets = λ x fs e β S l. rw (by-step x fs e β S l, refusal 0 0 0 b m fs n y (deduce (x .phrases) d e β j (work m)) (D .meets x fs e β S (row-j x fs e β S l .0))) (refl, refl);
+    meets = λ x fs e β S l. rw (by-step x fs e β S l, refusal 0 0 0 b m fs n y (deduce (x .phrases) d e β j (remaining m)) (D .meets x fs e β S (row-j x fs e β S l .0))) (refl, refl);
   }
 
   module _ (q : ℕ) (m₁ : M) (D : Deduced s d env b j m (concluded q m₁)) where
-    P : (x : Text) (fs : List Form) (e : Env) (β : List Form) → Setting x fs e β s m env b → In k x → Proved 0 0 0 b m m₁ fs q (deduce (x .phrases) d e β j (work m))
-    P x fs e β S l = proved 0 0 0 b m m₁ fs q (deduce (x .phrases) d e β j (work m)) (D .meets x fs e β S (row-j x fs e β S l .0))
+    P : (x : Text) (fs : List Form) (e : Env) (β : List Form) → Setting x fs e β s m env b → In k x → Proved 0 0 0 b m m₁ fs q (deduce (x .phrases) d e β j (remaining m))
+    P x fs e β S l = proved 0 0 0 b m m₁ fs q (deduce (x .phrases) d e β j (remaining m)) (D .meets x fs e β S (row-j x fs e β S l .0))
 
     S₁ : (x : Text) (fs : List Form) (e : Env) (β : List Form) (S : Setting x fs e β s m env b) (l : In k x) → Setting x (fs ++ P x fs e β S l .more) e β s m₁ env b
     S₁ x fs e β S l = let z = P x fs e β S l in setting-grew 0 0 0 b m m₁ fs (z .more) (z .told) (z .grew) x e β s env b (le-refl b) S
@@ -121,7 +121,7 @@ module _ (s : Shared) (d env b k f j : ℕ) (m : M) (is : kind (s .phrases) k �
       -- the announced proposition against the conclusion
       compared : (fs more more₂ : List Form) (told : List ℕ) (y : Derived) (X : Val) (v : Value) (rows : List (List ℕ)) → Grew 0 0 0 b m m₁ fs more told → Is (fs ++ more) q (y .conclusion) → Tells (fs ++ more) (y .proof) told
           → Grew 0 0 1 b m₁ (moved m₁ t u st) (fs ++ more) more₂ [] → Stands rows ((fs ++ more) ++ more₂) u (st .bindings) X v
-          → Meets 4 4 11 b m fs (outOf t u (m₁ .base) (m₁ .tokens) (comparedOf v st (m₁ .at .tokens) q k)) (asForm X k (λ F. must (same F (y .conclusion)) announced-differs k (out y (st .work))))
+          → Meets 4 4 11 b m fs (outOf t u (m₁ .base) (m₁ .tokens) (comparedOf v st (m₁ .at .tokens) q k)) (asForm X k (λ F. must (same F (y .conclusion)) announced-differs k (out y (st .remaining .0))))
       unfolding comparedOf Meets must asForm
       compared fs more more₂ told y X (Prop p) rows g c T g₂ s₂ =
           let Q = proposition rows ((fs ++ more) ++ more₂) u (st .bindings) X (Prop p) p s₂ refl in
@@ -133,12 +133,12 @@ module _ (s : Shared) (d env b k f j : ℕ) (m : M) (is : kind (s .phrases) k �
           ap (λ (F : Form). same F (y .conclusion)) (sym (Q .2 .tree)) ∙ ap (same (tree ((fs ++ more) ++ more₂) p)) (sym (c₂ .tree)) ∙ same-at (used (moved m₁ t u st)) ((fs ++ more) ++ more₂) table p q (omega arith) (omega arith) in
           let whole = append-nil told in
           let G = subst (Grew 4 4 11 b m (moved m₁ t u st) fs (more ++ more₂)) whole (grew-then 0 0 0 b 0 0 1 b 4 4 11 m m₁ (moved m₁ t u st) fs more more₂ told [] g g₂ (omega arith) (omega arith) (omega arith) (le-refl b)) in
-          subst (λ (Y : Val). Meets 4 4 11 b m fs (outOf t u (m₁ .base) (m₁ .tokens) (comparedBy (eqb p q) st (m₁ .at .tokens) q k)) (asForm Y k (λ F. must (same F (y .conclusion)) announced-differs k (out y (st .work))))) (sym (Q .1))
-          (subst (λ (w : Bool). Meets 4 4 11 b m fs (outOf t u (m₁ .base) (m₁ .tokens) (comparedBy (eqb p q) st (m₁ .at .tokens) q k)) (must w announced-differs k (out y (st .work)))) (sym test)
+          subst (λ (Y : Val). Meets 4 4 11 b m fs (outOf t u (m₁ .base) (m₁ .tokens) (comparedBy (eqb p q) st (m₁ .at .tokens) q k)) (asForm Y k (λ F. must (same F (y .conclusion)) announced-differs k (out y (st .remaining .0))))) (sym (Q .1))
+          (subst (λ (w : Bool). Meets 4 4 11 b m fs (outOf t u (m₁ .base) (m₁ .tokens) (comparedBy (eqb p q) st (m₁ .at .tokens) q k)) (must w announced-differs k (out y (st .remaining .0)))) (sym test)
           (by-test (eqb p q) fs more more₂ told y G c₂ (tells-more (fs ++ more) more₂ (y .proof) told T)))
         where
           by-test : (w : Bool) (fs more more₂ : List Form) (told : List ℕ) (y : Derived) → Grew 4 4 11 b m (moved m₁ t u st) fs (more ++ more₂) told → Is ((fs ++ more) ++ more₂) q (y .conclusion) → Tells ((fs ++ more) ++ more₂) (y .proof) told
-              → Meets 4 4 11 b m fs (outOf t u (m₁ .base) (m₁ .tokens) (comparedBy w st (m₁ .at .tokens) q k)) (must w announced-differs k (out y (st .work)))
+              → Meets 4 4 11 b m fs (outOf t u (m₁ .base) (m₁ .tokens) (comparedBy w st (m₁ .at .tokens) q k)) (must w announced-differs k (out y (st .remaining .0)))
           by-test true fs more more₂ told y G c T = concluded-by 4 4 11 b m (moved m₁ t u st) fs (more ++ more₂) ((fs ++ more) ++ more₂) told q (y .conclusion) (y .proof) (append-assoc fs more more₂) G c T
           by-test false fs more more₂ told y G c T = (refl, refl)
       compared fs more more₂ told y X (Constructor o) rows g c T g₂ s₂ =

@@ -11,21 +11,21 @@ use Rattle.language.specs.Run.{entering, evaluate, deduceStep, deduce}
 use Rattle.expressions.specs.Machine.{Shared, kind}
 use Rattle.expressions.specs.Asked.{Text}
 use Rattle.expressions.proofs.Operands.{row-inside}
-use Rattle.deductions.specs.Machine.{M, inner, work, spent, MOut, refused}
+use Rattle.deductions.specs.Machine.{M, inner, remaining, spent, MOut, refused}
 use Rattle.deductions.specs.Asked.{In, Setting, Ready}
 use Rattle.deductions.specs.Meets.{Meets, Deduced, Stepped}
 use Rattle.deductions.proofs.Growth.{unspend}
 use Rattle.deductions.proofs.Rows.{kind-most}
 
 module _ (s : Shared) (env b k : ℕ) (m : M) where
-  pub spent-out : (d : ℕ) → work m ≡ 0 → Deduced s d env b k m (refused budget-spent k)
+  pub spent-out : (d : ℕ) → remaining m ≡ 0 → Deduced s d env b k m (refused budget-spent k)
   unfolding deduce entering Meets
   spent-out zero h = record { meets = λ x fs e β S l. rw h (refl, refl) }
   spent-out (suc d) h = record { meets = λ x fs e β S l. rw h (refl, refl) }
 
-  pub too-deep : (d : ℕ) → (work m ≡ 0 → ⊥) → d ≡ 0 → Deduced s d env b k m (refused too-deep-number k)
+  pub too-deep : (d : ℕ) → (remaining m ≡ 0 → ⊥) → d ≡ 0 → Deduced s d env b k m (refused too-deep-number k)
   unfolding deduce entering Meets
-  too-deep d h z = rw z (record { meets = λ x fs e β S l. go x e β fs (work m) h })
+  too-deep d h z = rw z (record { meets = λ x fs e β S l. go x e β fs (remaining m) h })
     where
       go : (x : Text) (e : Env) (β fs : List Form) (n : ℕ) → (n ≡ 0 → ⊥) → Meets 0 0 0 b m fs (refused too-deep-number k) (deduce (x .phrases) 0 e β k n)
       go x e β fs zero h = absurd (h refl)
@@ -47,16 +47,16 @@ module _ (s : Shared) (env b k : ℕ) (m : M) where
     based = S .based;
   }
 
-  pub entered : (d : ℕ) (o : MOut) → (work m ≡ 0 → ⊥) → (d ≡ 0 → ⊥) → Stepped s (d - 1) env b k (spent m) o → Deduced s d env b k m o
+  pub entered : (d : ℕ) (o : MOut) → (remaining m ≡ 0 → ⊥) → (d ≡ 0 → ⊥) → Stepped s (d - 1) env b k (spent m) o → Deduced s d env b k m o
   entered d o h z A = record {
-    meets = λ x fs e β S l. rw (enter (x .phrases) d e β (work m) h z)
-        (unspend b m fs o (deduceStep (x .phrases) (evaluate (x .phrases) (d - 1)) (deduce (x .phrases) (d - 1)) e β k (work m - 1)) h (A .meets x fs e β (setting-spent x fs e β S) l));
+    meets = λ x fs e β S l. rw (enter (x .phrases) d e β (remaining m) h z)
+        (unspend b m fs o (deduceStep (x .phrases) (evaluate (x .phrases) (d - 1)) (deduce (x .phrases) (d - 1)) e β k (remaining m - 1)) h (A .meets x fs e β (setting-spent x fs e β S) l));
   }
 
-  pub ready-spent : (work m ≡ 0 → ⊥) → Ready (In k) s m env b 0 0 0 0 → Ready (In k) s (spent m) env b 4 4 11 1
+  pub ready-spent : (remaining m ≡ 0 → ⊥) → Ready (In k) s m env b 0 0 0 0 → Ready (In k) s (spent m) env b 4 4 11 1
   ready-spent h r =
       let i = r .room .inner in
-      let rf = i .forms in let rb = i .binds in let rt = r .room .tokens in let rs = r .room .base in let z : 0 < work m = omega arith in
+      let rf = i .forms in let rb = i .binds in let rt = r .room .tokens in let rs = r .room .base in let z : 0 < remaining m = omega arith in
       record {
         text = r .text;
         formed = r .formed;

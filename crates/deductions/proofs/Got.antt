@@ -15,7 +15,7 @@ use Rattle.expressions.specs.Machine.{Shared, mk as mkE, done, refused as refus
 use Rattle.expressions.specs.Asked.{Text, Row}
 use Rattle.expressions.specs.Meets.{Meets as MeetsE, Evaluated}
 use Rattle.deductions.specs.declared.Lemma.{Lemma}
-use Rattle.deductions.specs.Machine.{M, inner, work, bound, moved, joining, concluded, refused, got, lacking, pushed, stopped}
+use Rattle.deductions.specs.Machine.{M, inner, remaining, bound, moved, joining, concluded, refused, got, lacking, pushed, stopped}
 use Rattle.deductions.specs.Asked.{Based, Setting}
 use Rattle.deductions.specs.Meets.{Grew, Meets, Lemmas, MeetsOperand, MeetsArgs}
 use Rattle.deductions.proofs.Growth.{setting-grew, grew-moved}
@@ -28,14 +28,14 @@ pub record Ran (s : Shared) (d env b j : ℕ) (m m₁ : M) (x : Text) (fs : List
   pub grew : Grew 0 0 1 b m m₁ fs more []
   pub setting : Setting x (fs ++ more) e β s m₁ env b
   pub stands : Stands (x .rows) (fs ++ more) (m₁ .binds) (bound m₁) value v
-  pub is : evaluate (x .phrases) d e j (work m) ≡ out value (work m₁)
+  pub is : evaluate (x .phrases) d e j (remaining m) ≡ out value (remaining m₁)
 
 module _ (s : Shared) (d env b j : ℕ) (m : M) (x : Text) (fs : List Form) (e : Env) (β : List Form) (S : Setting x fs e β s m env b) where
   pub ran : Row x j → (f u : List ℕ) (st : State) (v : Value) → Evaluated s d env j (inner m) (done v (mkE f u st)) → Ran s d env b j m (moved m f u st) x fs e β v
   unfolding MeetsE
-  ran row f u st v A = go (evaluate (x .phrases) d e j (work m)) refl (A .meets x fs e (S .world) row (S .chain))
+  ran row f u st v A = go (evaluate (x .phrases) d e j (remaining m)) refl (A .meets x fs e (S .world) row (S .chain))
     where
-      go : (q : Out Val) → evaluate (x .phrases) d e j (work m) ≡ q → MeetsE 0 0 (x .rows) (inner m) fs (done v (mkE f u st)) q → Ran s d env b j m (moved m f u st) x fs e β v
+      go : (q : Out Val) → evaluate (x .phrases) d e j (remaining m) ≡ q → MeetsE 0 0 (x .rows) (inner m) fs (done v (mkE f u st)) q → Ran s d env b j m (moved m f u st) x fs e β v
       go (out X w) i z =
           let g = grew-moved 0 b m f u st fs (z .0) (z .1) in
           record {
@@ -48,11 +48,11 @@ module _ (s : Shared) (d env b j : ℕ) (m : M) (x : Text) (fs : List Form) (e :
           }
       go (stop n y) i z = absurd z
 
-  pub ran-refused : Row x j → (n y : ℕ) → Evaluated s d env j (inner m) (refusedE n y) → evaluate (x .phrases) d e j (work m) ≡ stop n y
+  pub ran-refused : Row x j → (n y : ℕ) → Evaluated s d env j (inner m) (refusedE n y) → evaluate (x .phrases) d e j (remaining m) ≡ stop n y
   unfolding MeetsE
-  ran-refused row n y A = go (evaluate (x .phrases) d e j (work m)) refl (A .meets x fs e (S .world) row (S .chain))
+  ran-refused row n y A = go (evaluate (x .phrases) d e j (remaining m)) refl (A .meets x fs e (S .world) row (S .chain))
     where
-      go : (q : Out Val) → evaluate (x .phrases) d e j (work m) ≡ q → MeetsE 0 0 (x .rows) (inner m) fs (refusedE n y) q → evaluate (x .phrases) d e j (work m) ≡ stop n y
+      go : (q : Out Val) → evaluate (x .phrases) d e j (remaining m) ≡ q → MeetsE 0 0 (x .rows) (inner m) fs (refusedE n y) q → evaluate (x .phrases) d e j (remaining m) ≡ stop n y
       go (out X w) i z = absurd z
       go (stop n′ y′) i z = i ∙ rw (z .0, z .1)
 
@@ -65,7 +65,7 @@ pub record Proved (a c t b : ℕ) (m m₁ : M) (fs : List Form) (p : ℕ) (r : O
   pub grew : Grew a c t b m m₁ fs more told
   pub concludes : Is (fs ++ more) p (derived .conclusion)
   pub tells : Tells (fs ++ more) (derived .proof) told
-  pub is : r ≡ out derived (work m₁)
+  pub is : r ≡ out derived (remaining m₁)
 
 pub proved : (a c t b : ℕ) (m m₁ : M) (fs : List Form) (p : ℕ) (r : Out Derived) → Meets a c t b m fs (concluded p m₁) r → Proved a c t b m m₁ fs p r
 unfolding Meets
@@ -87,8 +87,8 @@ pub record Fetch (b : ℕ) (rows : List (List ℕ)) (m m₁ : M) (fs : List Form
   pub stands : Stands rows (fs ++ more) (m₁ .binds) (bound m₁) (argument .value) v
   pub lemma : Lemmas (fs ++ more) l (argument .lemma)
   pub tells : TellsLemmas (fs ++ more) (argument .lemma) told
-  pub paid : joining l + work m₁ ≤ work m
-  pub is : r ≡ out argument (work m₁)
+  pub paid : joining l + remaining m₁ ≤ remaining m
+  pub is : r ≡ out argument (remaining m₁)
 
 pub fetch : (b : ℕ) (rows : List (List ℕ)) (m m₁ : M) (fs : List Form) (v : Value) (l : Lemma) (r : Out Argument) → MeetsOperand b rows m fs (got v l m₁) r → Fetch b rows m m₁ fs v l r
 unfolding MeetsOperand
@@ -112,8 +112,8 @@ pub record Args (left b : ℕ) (rows : List (List ℕ)) (m m₁ : M) (fs : List 
   pub tells : TellsLemmas (fs ++ more) (lemmas list) told
   pub based : Based (fs ++ more) (m₁ .base) c (joined (lemmas list) β)
   pub above : b ≤ c
-  pub paid : c + work m₁ ≤ b + work m
-  pub is : r ≡ out list (work m₁)
+  pub paid : c + remaining m₁ ≤ b + remaining m
+  pub is : r ≡ out list (remaining m₁)
 
 pub args : (left b : ℕ) (rows : List (List ℕ)) (m m₁ : M) (fs : List Form) (f : Env) (β : List Form) (y c : ℕ) (r : Out (List Argument)) → MeetsArgs left b rows m fs f β (pushed y c m₁) r → Args left b rows m m₁ fs f β y c r
 unfolding MeetsArgs

@@ -22,7 +22,7 @@ use Rattle.expressions.specs.Meets.{Grew as GrewE}
 use Rattle.expressions.proofs.Growth.{world-grew, chain-grew, stands-grew, room-grew as roomE-grew, grew-then as grewE-then, grew-none as grewE-none, grew-push as grewE-push}
 use Rattle.deductions.specs.declared.Lemma.{Lemma}
 use Rattle.deductions.specs.declared.Lemma.the-variants.{Of, None}
-use Rattle.deductions.specs.Machine.{M, mk, progress, inner, work, bound, spent, moved, joinedAt, MOut, concluded, refused}
+use Rattle.deductions.specs.Machine.{M, mk, progress, inner, remaining, bound, spent, moved, joinedAt, MOut, concluded, refused}
 use Rattle.deductions.specs.Asked.{Setting, Room}
 use Rattle.deductions.specs.Meets.{Grew, Meets}
 use Rattle.deductions.proofs.Tokens.{take-sets}
@@ -46,10 +46,10 @@ module _ (a c t b : ℕ) (m m′ : M) (fs gs : List Form) (ts : List ℕ) (g : G
   pub bindings-grew : (rows : List (List ℕ)) (e : Env) (y : ℕ) → Chain rows fs (m .binds) (bound m) e y → Chain rows (fs ++ gs) (m′ .binds) (bound m′) e y
   bindings-grew rows e y k = chain-grew a c (inner m) (inner m′) fs gs (g .inner) rows e y k
 
-  pub less : t ≤ 11 → work m′ ≤ work m
+  pub less : t ≤ 11 → remaining m′ ≤ remaining m
   less h = let p = g .paid in let n = g .many in omega arith
 
-  pub room-grew : (k k′ A C T U a′ c′ t′ u′ : ℕ) → t ≤ 11 → Room m k A C T U → a′ + a ≤ A → c′ + c ≤ C → t′ + t ≤ T + 1 → k′ + work m′ + u′ ≤ k + work m + U → Room m′ k′ a′ c′ t′ u′
+  pub room-grew : (k k′ A C T U a′ c′ t′ u′ : ℕ) → t ≤ 11 → Room m k A C T U → a′ + a ≤ A → c′ + c ≤ C → t′ + t ≤ T + 1 → k′ + remaining m′ + u′ ≤ k + remaining m + U → Room m′ k′ a′ c′ t′ u′
   room-grew k k′ A C T U a′ c′ t′ u′ h R p q r w =
       let d = g .paid in let n = g .many in let l = less h in
       let rt = R .tokens in let rb = R .base in let rs = R .short in let rm = R .small in
@@ -166,7 +166,7 @@ grew-moved a b m f u st fs gs g =
 
 -- a value is bound
 abbrev pub boundOn : M → Value → ℕ → M
-boundOn m v y = mk (m .forms) (sets (m .binds) (4 * bound m) (numbersOf v y)) (m .base) (m .tokens) (progress (counters (m .at .state .props) (bound m + 1) (work m)) (m .at .tokens))
+boundOn m v y = mk (m .forms) (sets (m .binds) (4 * bound m) (numbersOf v y)) (m .base) (m .tokens) (progress (counters (m .at .state .props) (bound m + 1) (remaining m)) (m .at .tokens))
 
 pub grew-bound : (b : ℕ) (m : M) (fs : List Form) (v : Value) (y : ℕ) → Table (used m) fs → Grew 0 1 1 b m (boundOn m v y) fs [] []
 grew-bound b m fs v y T = record {
@@ -215,12 +215,12 @@ grew-told t b n m fs ts e h k T = record {
 
 -- a unit of work
 
-pub unspend : (b : ℕ) (m : M) (fs : List Form) (o : MOut) (r : Out Derived) → (work m ≡ 0 → ⊥) → Meets 4 4 11 b (spent m) fs o r → Meets 0 0 0 b m fs o r
+pub unspend : (b : ℕ) (m : M) (fs : List Form) (o : MOut) (r : Out Derived) → (remaining m ≡ 0 → ⊥) → Meets 4 4 11 b (spent m) fs o r → Meets 0 0 0 b m fs o r
 unfolding Meets
 unspend b m fs (concluded p m′) (out d w) h y = (
   y .0,
   y .1,
-  (let g = y .2 in let i = g .inner in let ip = i .props in let iq = i .bindings in let im = i .more in let gp = g .paid in let z : 0 < work m = omega arith in record {
+  (let g = y .2 in let i = g .inner in let ip = i .props in let iq = i .bindings in let im = i .more in let gp = g .paid in let z : 0 < remaining m = omega arith in record {
     inner = record {
       table = i .table;
       kept = i .kept;

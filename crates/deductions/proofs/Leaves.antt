@@ -88,7 +88,7 @@ module _ (t : List ℕ) (e n x y z : ℕ) where
 
 module _ (at : Progress) (b r n x y z k : ℕ) (t₀ t s u₀ : List ℕ) (a : Applied) (R : Ruling t₀ (at .state .props) s b r x y z t a) where
   pub rule-given : (p m j : ℕ) (u : List ℕ) → a ≡ Given p m → (j ≡ at .tokens + 2 + n) × (u ≡ sets u₀ (at .tokens) (0 ∷ r ∷ x ∷ y ∷ z ∷ []))
-      → Inferred at b r n x y z k t₀ t s u₀ u (Concluded p (progress (counters m (at .state .bindings) (at .state .work)) j))
+      → Inferred at b r n x y z k t₀ t s u₀ u (Concluded p (progress (counters m (at .state .bindings) (at .state .remaining .0)) j))
   unfolding inferredOf
   rule-given p m j u e (i, w) = record { answer = a; ruling = R; outcome = rw (e, i); told = λ p m g. w }
 
@@ -105,7 +105,7 @@ module _ (at : Progress) (b r n x y z k : ℕ) (t₀ t s u₀ : List ℕ) (a : A
 module _ (p q k : ℕ) (at : Progress) (t₀ u₀ : List ℕ) where
   pub refuted-false : (t₁ t₂ t u : List ℕ) (a b d : Formed) (n : ℕ) → q ≡ 1 → Interned (code (binR cond p 1)) (at .state .props) t₀ t₁ a → Interned (code (negR 1)) (a .size) t₁ t₂ b
       → Interned (code (negR p)) (b .size) t₂ t d → (n ≡ at .tokens + 7) × (take (at .tokens + 7) u ≡ take (at .tokens) u₀ ++ tollens (a .at) (b .at))
-      → Refuted p q k at t₀ t u₀ u (Concluded (d .at) (progress (counters (d .size) (at .state .bindings) (at .state .work)) n))
+      → Refuted p q k at t₀ t u₀ u (Concluded (d .at) (progress (counters (d .size) (at .state .bindings) (at .state .remaining .0)) n))
   refuted-false t₁ t₂ t u a b d n e i j l (m, w) = record {
     false = λ g. record { implied = a; absurd = b; denied = d; once = t₁; twice = t₂; first = i; second = j; third = l; told = w; outcome = rw m };
     other = λ g. absurd (g e);

@@ -23,7 +23,7 @@ use Rattle.expressions.proofs.Steps.{rows-few, trees-few}
 use Rattle.expressions.proofs.Operands.{row-inside}
 use Rattle.deductions.specs.declared.Lemma.{Lemma}
 use Rattle.deductions.specs.declared.Lemma.the-variants.{Of, None}
-use Rattle.deductions.specs.Machine.{M, inner, work, bound, moved, joining, LowLemma, MOut, concluded, refused, got, lacking}
+use Rattle.deductions.specs.Machine.{M, inner, remaining, bound, moved, joining, LowLemma, MOut, concluded, refused, got, lacking}
 use Rattle.deductions.specs.Asked.{In, Ins, Setting, Ready, Steplist}
 use Rattle.deductions.specs.Meets.{Grew, Meets, Deduced, Stepped, Lemmas, MeetsOperand, Fetched, Stepping}
 use Rattle.deductions.proofs.Bases.{based-lemma, lemma-small}
@@ -62,7 +62,7 @@ module _ (s : Shared) (d env b k : ℕ) (m : M) where
         let low : kind (s .phrases) k < 16 = rw (← i) h in
         let R = ran s d env b k m x fs e β S (expression-row x fs s (inner m) (S .world) k l low) f u st v A in
         let w = less 0 0 1 b m (moved m f u st) fs (R .more) [] (R .grew) (omega arith) in
-        rw (argument-expression x fs s (inner m) (S .world) k l (evaluate (x .phrases) d) (deduce (x .phrases) d) e β (work m) low, R .is)
+        rw (argument-expression x fs s (inner m) (S .world) k l (evaluate (x .phrases) d) (deduce (x .phrases) d) e β (remaining m) low, R .is)
         (R .more, [], R .grew, R .stands, refl, refl, omega arith, refl);
   }
 
@@ -72,7 +72,7 @@ module _ (s : Shared) (d env b k : ℕ) (m : M) where
     meets = λ x fs e β S l.
         let low : kind (s .phrases) k < 16 = rw (← i) h in
         rw (
-          argument-expression x fs s (inner m) (S .world) k l (evaluate (x .phrases) d) (deduce (x .phrases) d) e β (work m) low,
+          argument-expression x fs s (inner m) (S .world) k l (evaluate (x .phrases) d) (deduce (x .phrases) d) e β (remaining m) low,
           ran-refused s d env b k m x fs e β S (expression-row x fs s (inner m) (S .world) k l low) n y A,
         ) (refl, refl);
   }
@@ -89,9 +89,9 @@ module _ (s : Shared) (d env b k : ℕ) (m : M) where
     meets = λ x fs e β S l.
         let g = grew-one fs room (S .world .legible .table) in
         let S₁ = setting-same 0 0 2 b m told-one fs (1 ∷ []) g x e β s env b (le-refl b) S in
-        let P = proved 0 0 0 b told-one m₂ fs p (deduce (x .phrases) d e β k (work m)) (A .meets x fs e β S₁ l) in
+        let P = proved 0 0 0 b told-one m₂ fs p (deduce (x .phrases) d e β k (remaining m)) (A .meets x fs e β S₁ l) in
         let gp = P .grew .paid in let gn = P .grew .many in
-        rw (argument-deduction x fs s (inner m) (S .world) k l (evaluate (x .phrases) d) (deduce (x .phrases) d) e β (work m) (rw (← i) h), P .is) (
+        rw (argument-deduction x fs s (inner m) (S .world) k l (evaluate (x .phrases) d) (deduce (x .phrases) d) e β (remaining m) (rw (← i) h), P .is) (
           P .more,
           (1 ∷ []) ++ P .told,
           grew-on 0 0 2 b 0 0 0 b 0 0 1 m told-one m₂ fs (P .more) (1 ∷ []) (P .told) g (P .grew) (omega arith) (omega arith) (omega arith) (le-refl b),
@@ -110,8 +110,8 @@ module _ (s : Shared) (d env b k : ℕ) (m : M) where
         let g = grew-one fs room (S .world .legible .table) in
         let S₁ = setting-same 0 0 2 b m told-one fs (1 ∷ []) g x e β s env b (le-refl b) S in
         rw (
-          argument-deduction x fs s (inner m) (S .world) k l (evaluate (x .phrases) d) (deduce (x .phrases) d) e β (work m) (rw (← i) h),
-          refusal 0 0 0 b told-one fs n y (deduce (x .phrases) d e β k (work m)) (A .meets x fs e β S₁ l),
+          argument-deduction x fs s (inner m) (S .world) k l (evaluate (x .phrases) d) (deduce (x .phrases) d) e β (remaining m) (rw (← i) h),
+          refusal 0 0 0 b told-one fs n y (deduce (x .phrases) d e β k (remaining m)) (A .meets x fs e β S₁ l),
         ) (refl, refl);
   }
 
@@ -126,7 +126,7 @@ module _ (s : Shared) (d env b k : ℕ) (m : M) where
         basis = r .basis;
         setting = setting-same 0 0 2 b m told-one (r .formed) (1 ∷ []) g (r .text) (r .bindings) (r .basis) s env b (le-refl b) (r .setting);
         row = r .row;
-        room = room-grew 0 0 2 b m told-one (r .formed) [] (1 ∷ []) g b b 0 0 1 0 0 0 0 0 (omega arith) (r .room) (omega arith) (omega arith) (omega arith) (le-refl (b + work m + 0));
+        room = room-grew 0 0 2 b m told-one (r .formed) [] (1 ∷ []) g b b 0 0 1 0 0 0 0 0 (omega arith) (r .room) (omega arith) (omega arith) (omega arith) (le-refl (b + remaining m + 0));
       }
 
   pub sequel-fits : (A C T U : ℕ) → 1 ≤ T → Ready (In k) s m env b A C T U → m .at .tokens + 1 ≤ length (m .tokens)
@@ -141,13 +141,13 @@ pub record Held (G : Text → Type 0) (s : Shared) (m m₁ : M) (env b A C T U :
   pub argument : Argument
   pub same : argument .value ≡ value
   pub lemma : Lemmas (ready .formed) l (argument .lemma)
-  pub paid : joining l + work m₁ ≤ work m
+  pub paid : joining l + remaining m₁ ≤ remaining m
   pub long : length (m₁ .base) ≡ length (m .base)
 
 pub held : (G : Text → Type 0) (s : Shared) (d env b k A C T U : ℕ) (m m₁ : M) (v : Value) (l : Lemma) (r : Ready G s m env b A C T U) → In k (r .text) → Fetched s d env b k m (got v l m₁) → Held G s m m₁ env b A C T U v l
 held G s d env b k A C T U m m₁ v l r row F =
     let x = r .text in let fs = r .formed in let e = r .bindings in let β = r .basis in
-    let P = fetch b (x .rows) m m₁ fs v l (argument (x .phrases) (evaluate (x .phrases) d) (deduce (x .phrases) d) e β k (work m)) (F .meets x fs e β (r .setting) row) in
+    let P = fetch b (x .rows) m m₁ fs v l (argument (x .phrases) (evaluate (x .phrases) d) (deduce (x .phrases) d) e β k (remaining m)) (F .meets x fs e β (r .setting) row) in
     let g = P .grew in
     let w = less 0 0 1 b m m₁ fs (P .more) (P .told) g (omega arith) in
     record {
@@ -169,7 +169,7 @@ held G s d env b k A C T U m m₁ v l r row F =
       long = g .base-long;
     }
 
-pub join-fits : (G : Text → Type 0) (s : Shared) (m m₁ : M) (env b A C T U : ℕ) (v : Value) (l : Lemma) → b + work m ≤ length (m .base) → Held G s m m₁ env b A C T U v l → (b + joining l ≤ 16384) × LowLemma l
+pub join-fits : (G : Text → Type 0) (s : Shared) (m m₁ : M) (env b A C T U : ℕ) (v : Value) (l : Lemma) → b + remaining m ≤ length (m .base) → Held G s m m₁ env b A C T U v l → (b + joining l ≤ 16384) × LowLemma l
 join-fits G s m m₁ env b A C T U v l h H =
     let r = H .ready in
     let rs = r .room .small in let p = H .paid in let q = H .long in
@@ -187,10 +187,10 @@ value-fits s m x fs X v y W S low room short =
 
 module _ (s : Shared) (d env b k : ℕ) (m : M) (is : kind (s .phrases) k ≡ 19) (f j : ℕ) (fi : f ≡ one (s .phrases) k) (ji : j ≡ two (s .phrases) k) where
   let-step : (x : Text) (fs : List Form) (e : Env) (β : List Form) → Setting x fs e β s m env b → In k x →
-      deduceStep (x .phrases) (evaluate (x .phrases) d) (deduce (x .phrases) d) e β k (work m)
-      ≡ next (argument (x .phrases) (evaluate (x .phrases) d) (deduce (x .phrases) d) e β f (work m)) (λ a w. after (a .lemma) (deduce (x .phrases) d (e ▸ a .value) (joined (a .lemma) β) j w))
+      deduceStep (x .phrases) (evaluate (x .phrases) d) (deduce (x .phrases) d) e β k (remaining m)
+      ≡ next (argument (x .phrases) (evaluate (x .phrases) d) (deduce (x .phrases) d) e β f (remaining m)) (λ a w. after (a .lemma) (deduce (x .phrases) d (e ▸ a .value) (joined (a .lemma) β) j w))
   unfolding deduced
-  let-step x fs e β S l = step-is (x .phrases) (evaluate (x .phrases) d) (deduce (x .phrases) d) e β k (work m) _ (says-dlet x fs s (inner m) (S .world) k l is) ∙ rw (fi, ji)
+  let-step x fs e β S l = step-is (x .phrases) (evaluate (x .phrases) d) (deduce (x .phrases) d) e β k (remaining m) _ (says-dlet x fs s (inner m) (S .world) k l is) ∙ rw (fi, ji)
 
   pub let-first : (A C T U : ℕ) (r : Ready (In k) s m env b A C T U) → In f (r .text)
   let-first A C T U r = rw fi (let-rows (r .text) (r .formed) s (inner m) (r .setting .world) k (r .row) is .0)
@@ -205,7 +205,7 @@ module _ (s : Shared) (d env b k : ℕ) (m : M) (is : kind (s .phrases) k ≡ 19
   unfolding Meets next
   let-refused n y F = record {
     meets = λ x fs e β S l.
-        rw (let-step x fs e β S l, unfetched b (x .rows) m fs n y (argument (x .phrases) (evaluate (x .phrases) d) (deduce (x .phrases) d) e β f (work m)) (F .meets x fs e β S (first-in x fs e β S l))) (refl, refl);
+        rw (let-step x fs e β S l, unfetched b (x .rows) m fs n y (argument (x .phrases) (evaluate (x .phrases) d) (deduce (x .phrases) d) e β f (remaining m)) (F .meets x fs e β S (first-in x fs e β S l))) (refl, refl);
   }
 
   -- the lemma joined and the value bound
@@ -231,7 +231,7 @@ module _ (s : Shared) (d env b k : ℕ) (m : M) (is : kind (s .phrases) k ≡ 19
   unfolding next
   let-is m₁ v l o r F D = record {
     meets = λ x fs e β S i.
-        let P = fetch b (x .rows) m m₁ fs v l (argument (x .phrases) (evaluate (x .phrases) d) (deduce (x .phrases) d) e β f (work m)) (F .meets x fs e β S (first-in x fs e β S i)) in
+        let P = fetch b (x .rows) m m₁ fs v l (argument (x .phrases) (evaluate (x .phrases) d) (deduce (x .phrases) d) e β f (remaining m)) (F .meets x fs e β S (first-in x fs e β S i)) in
         let g = P .grew in
         let S₁ = setting-grew 0 0 1 b m m₁ fs (P .more) (P .told) g x e β s env b (le-refl b) S in
         let R = room-grew 0 0 1 b m m₁ fs (P .more) (P .told) g b b 4 4 11 1 4 4 11 1 (omega arith) (r .room) (omega arith) (omega arith) (omega arith)
@@ -261,7 +261,7 @@ module _ (s : Shared) (d env b k : ℕ) (m : M) (is : kind (s .phrases) k ≡ 19
           row = rw ji (rows .1 .0);
           room = room-grew 0 1 1 b m₁ (let-state m₁ v l) (q .formed) [] [] (let-grew m₁ v l (q .formed) T) (b + joining l) (b + joining l) 4 4 11 0 0 0 0 0 (omega arith)
               (record { inner = q .room .inner; tokens = rt; base = omega arith; short = q .room .short; small = q .room .small })
-              (omega arith) (omega arith) (omega arith) (le-refl (b + joining l + work m₁ + 0));
+              (omega arith) (omega arith) (omega arith) (le-refl (b + joining l + remaining m₁ + 0));
         },
         rw ji (rows .1 .1),
       )
@@ -278,7 +278,7 @@ pub block-is : (s : Shared) (d env b k n : ℕ) (m : M) (o : MOut) → kind (s .
 unfolding deduced
 block-is s d env b k n m o is i A = record {
   meets = λ x fs e β S l.
-      rw (step-is (x .phrases) (evaluate (x .phrases) d) (deduce (x .phrases) d) e β k (work m) _ (says-block x fs s (inner m) (S .world) k l is), ← i)
+      rw (step-is (x .phrases) (evaluate (x .phrases) d) (deduce (x .phrases) d) e β k (remaining m) _ (says-block x fs s (inner m) (S .world) k l is), ← i)
       (after-same 0 0 1 b 0 0 0 b 4 4 11 m m fs o _ (grew-none 0 0 1 b m fs (omega arith) (S .world .legible .table)) (A .meets x fs e β S (λ q h. step-rows x fs s (inner m) (S .world) k l is q (omega arith) .0)) (omega arith) (omega arith) (omega arith) (le-refl b));
 }
 
@@ -336,19 +336,19 @@ module _ (s : Shared) (env b from left k : ℕ) (m : M) (ki : k ≡ getD (s .phr
     others x e γ w = steps (deduce (x .phrases) d) e γ (getD (s .phrases) (from + 1) 0) (listed (s .phrases) (from + 1 + 1) (left - 1 - 1)) w
 
     more-steps : (x : Text) (fs : List Form) (e : Env) (β : List Form) → Steplist s m env b from left → Setting x fs e β s m env b → Ins (s .phrases) from left x → (left ≡ 1 → ⊥) →
-        steps (deduce (x .phrases) d) e β (getD (s .phrases) from 0) (listed (s .phrases) (from + 1) (left - 1)) (work m)
-        ≡ next (argument (x .phrases) (evaluate (x .phrases) d) (deduce (x .phrases) d) e β k (work m)) (λ a w. after (a .lemma) (others x e (joined (a .lemma) β) w))
+        steps (deduce (x .phrases) d) e β (getD (s .phrases) from 0) (listed (s .phrases) (from + 1) (left - 1)) (remaining m)
+        ≡ next (argument (x .phrases) (evaluate (x .phrases) d) (deduce (x .phrases) d) e β k (remaining m)) (λ a w. after (a .lemma) (others x e (joined (a .lemma) β) w))
     unfolding steps
     more-steps x fs e β a S r z =
         let h = a .some in
-        rw (list-step (s .phrases) (from + 1) (left - 1) (λ q. z (omega arith)), ← ki, argument-deduction x fs s (inner m) (S .world) k (first-step x h r) (evaluate (x .phrases) d) (deduce (x .phrases) d) e β (work m) (step-kind a))
-        (as-argument β (others x e) (deduce (x .phrases) d e β k (work m)))
+        rw (list-step (s .phrases) (from + 1) (left - 1) (λ q. z (omega arith)), ← ki, argument-deduction x fs s (inner m) (S .world) k (first-step x h r) (evaluate (x .phrases) d) (deduce (x .phrases) d) e β (remaining m) (step-kind a))
+        (as-argument β (others x e) (deduce (x .phrases) d e β k (remaining m)))
 
     pub step-fails : (n y : ℕ) → Steplist s m env b from left → (left ≡ 1 → ⊥) → Fetched s d env b k m (lacking n y) → Stepping s d env b from left m (refused n y)
     unfolding Meets next
     step-fails n y a h F = record {
       meets = λ x fs e β S r.
-          rw (more-steps x fs e β a S r h, unfetched b (x .rows) m fs n y (argument (x .phrases) (evaluate (x .phrases) d) (deduce (x .phrases) d) e β k (work m)) (F .meets x fs e β S (first-step x (a .some) r))) (refl, refl);
+          rw (more-steps x fs e β a S r h, unfetched b (x .rows) m fs n y (argument (x .phrases) (evaluate (x .phrases) d) (deduce (x .phrases) d) e β k (remaining m)) (F .meets x fs e β S (first-step x (a .some) r))) (refl, refl);
     }
 
     joined-setting : (x : Text) (fs : List Form) (e : Env) (β : List Form) (m₁ : M) (l : Lemma) (ds : List Derived) → Setting x fs e β s m₁ env b → Lemmas fs l ds → b + joining l ≤ length (m₁ .base)
@@ -366,7 +366,7 @@ module _ (s : Shared) (env b from left k : ℕ) (m : M) (ki : k ≡ getD (s .phr
     unfolding next
     step-then m₁ v l o a h F D = record {
       meets = λ x fs e β S r.
-          let P = fetch b (x .rows) m m₁ fs v l (argument (x .phrases) (evaluate (x .phrases) d) (deduce (x .phrases) d) e β k (work m)) (F .meets x fs e β S (first-step x (a .some) r)) in
+          let P = fetch b (x .rows) m m₁ fs v l (argument (x .phrases) (evaluate (x .phrases) d) (deduce (x .phrases) d) e β k (remaining m)) (F .meets x fs e β S (first-step x (a .some) r)) in
           let g = P .grew in
           let S₁ = setting-grew 0 0 1 b m m₁ fs (P .more) (P .told) g x e β s env b (le-refl b) S in
           let rs = a .ready .room .base in let bl = g .base-long in let p = P .paid in
@@ -395,7 +395,7 @@ module _ (s : Shared) (env b from left k : ℕ) (m : M) (ki : k ≡ getD (s .phr
             row = later-steps (q .text) h (q .row);
             room = room-grew 0 0 1 b m₁ (joinedOn m₁ b l) (q .formed) [] [] (grew-joined b b m₁ (q .formed) l (le-refl b) T) (b + joining l) (b + joining l) 0 0 1 0 0 0 1 0 (omega arith)
                 (record { inner = q .room .inner; tokens = q .room .tokens; base = omega arith; short = q .room .short; small = q .room .small })
-                (omega arith) (omega arith) (omega arith) (le-refl (b + joining l + work m₁ + 0));
+                (omega arith) (omega arith) (omega arith) (le-refl (b + joining l + remaining m₁ + 0));
           };
           some = omega arith;
           few = omega arith;

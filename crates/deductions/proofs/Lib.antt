@@ -12,7 +12,7 @@ pub mod Got
 -- one law for each return
 pub mod Entering
 pub mod Lets
-pub mod Hypotheses
+pub mod Supposing
 pub mod Announcing
-pub mod Calls
-pub mod Matches
+pub mod Calling
+pub mod Matching

@@ -33,7 +33,7 @@ use Rattle.expressions.specs.Asked.{Text}
 use Rattle.deductions.specs.declared.Conclusion.{Conclusion}
 use Rattle.deductions.specs.declared.Taken.{Taken}
 use Rattle.deductions.specs.declared.Taken.the-variants.{Props, Other}
-use Rattle.deductions.specs.Machine.{M, inner, work, bound, refused, outOf, takenBy, takenAt, Long, inferredOf, Inferred}
+use Rattle.deductions.specs.Machine.{M, inner, remaining, bound, refused, outOf, takenBy, takenAt, Long, inferredOf, Inferred}
 use Rattle.rules.specs.Base.{Alike}
 use Rattle.deductions.specs.Asked.{Setting, Applicable}
 use Rattle.deductions.specs.Meets.{Meets, Applying}
@@ -220,7 +220,7 @@ module _ (s : Shared) (m : M) (y b n r : ℕ) where
     rule-other c e h i = record {
       meets = λ x fs X vs β S st l.
           let t : Takes fs vs Other = subst (Takes fs vs) (sym i) (taken-so x fs X vs β S st l (h ∙ e)) in
-          rw (rule-is (x .rows) fs (m .binds) (bound m) X r st .0, applied-is (deduce (x .phrases) d) β vs (work m) l (h ∙ e), t k _) (refl, refl);
+          rw (rule-is (x .rows) fs (m .binds) (bound m) X r st .0, applied-is (deduce (x .phrases) d) β vs (remaining m) l (h ∙ e), t k _) (refl, refl);
     }
 
     -- the rule's answer
@@ -228,7 +228,7 @@ module _ (s : Shared) (m : M) (y b n r : ℕ) where
     module _ (p q z : ℕ) (t u : List ℕ) (fs : List Form) (ps : List Form) (T : Table (used m) fs) (names : Names fs (take n (p ∷ (q ∷ (z ∷ [])))) ps) (arity-is : n ≡ getD arity r 0) (rule : r ≤ 15)
         (room : m .at .state .props + 1 ≤ length (m .forms)) (space : m .at .tokens + 5 ≤ length (m .tokens)) where
       given-meets : (v : Bool) (g : Form) (a : Applied) → Comes (whether v g (used m)) (m .at .state .props) fs (m .forms) t a → ((i j : ℕ) → a ≡ Given i j → u ≡ sets (m .tokens) (m .at .tokens) (0 ∷ r ∷ p ∷ q ∷ z ∷ []))
-          → Meets 1 0 6 b m fs (outOf t (m .binds) (m .base) u (inferredOf (m .at) n k a)) (must v premise-missing k (out (derived g (infer r ps)) (work m)))
+          → Meets 1 0 6 b m fs (outOf t (m .binds) (m .base) u (inferredOf (m .at) n k a)) (must v premise-missing k (out (derived g (infer r ps)) (remaining m)))
       unfolding whether must inferredOf Meets Tells
       given-meets true g a C told =
           let us = whether true g (used m) .words in
@@ -264,7 +264,7 @@ module _ (s : Shared) (m : M) (y b n r : ℕ) where
       given-meets false g a C told = rw (C .answer) (refl, refl)
 
       ruled-meets : (R : Ruled) (β : List Form) (a : Applied) → Alike β (baseOf fs (m .base) b) → Comes (outcome R (baseOf fs (m .base) b) (used m)) (m .at .state .props) fs (m .forms) t a
-          → ((i j : ℕ) → a ≡ Given i j → u ≡ sets (m .tokens) (m .at .tokens) (0 ∷ r ∷ p ∷ q ∷ z ∷ [])) → Meets 1 0 6 b m fs (outOf t (m .binds) (m .base) u (inferredOf (m .at) n k a)) (inferred R r ps β k (work m))
+          → ((i j : ℕ) → a ≡ Given i j → u ≡ sets (m .tokens) (m .at .tokens) (0 ∷ r ∷ p ∷ q ∷ z ∷ [])) → Meets 1 0 6 b m fs (outOf t (m .binds) (m .base) u (inferredOf (m .at) n k a)) (inferred R r ps β k (remaining m))
       unfolding outcome inferred inferredOf Meets
       ruled-meets misshapen β a h C told = rw (C .answer) (refl, refl)
       ruled-meets (gives premises g) β a h C told =
@@ -282,6 +282,6 @@ module _ (s : Shared) (m : M) (y b n r : ℕ) where
           let C = I .ruling .rules fs T in
           let C₁ = subst (λ (Q : Ruled). Comes (outcome Q (baseOf fs (m .base) b) (used m)) (m .at .state .props) fs (m .forms) t (I .answer)) (K .4 r) C in
           let names = subst (λ (j : ℕ). Names fs (take j (p ∷ (q ∷ (z ∷ [])))) (K .0)) l (K .2) in
-          rw (is .0, applied-is (deduce (x .phrases) d) β vs (work m) l (h ∙ e), K .1 k _, I .outcome)
+          rw (is .0, applied-is (deduce (x .phrases) d) β vs (remaining m) l (h ∙ e), K .1 k _, I .outcome)
           (ruled-meets p q z t u fs (K .0) T names (h ∙ e) (is .1) (omega arith) (omega arith) (ruled r (K .0)) β (I .answer) (S .based .alike) C₁ (I .told));
     }

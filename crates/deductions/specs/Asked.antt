@@ -1,4 +1,4 @@
--- What the functions ask: that the state stands for a text, propositions, bindings and a base, and that there is room for what the work left can use.
+-- What the functions ask: that the state stands for a text, propositions, bindings and a base, and that there is room for what is left of the budget.
 use mathlib.Core.Path.{_≡_}
 use mathlib.Core.List.{List}
 use Prim.Native.Nat.{ℕ, _+_, _*_, _≤_, _<_}
@@ -10,7 +10,7 @@ use Rattle.bindings.specs.Stands.{Stands, Chain}
 use Rattle.rules.specs.Base.{Alike, baseOf}
 use Rattle.expressions.specs.Machine.{Shared, kind, two}
 use Rattle.expressions.specs.Asked.{Text, World, Room as RoomE}
-use Rattle.deductions.specs.Machine.{M, inner, work, bound}
+use Rattle.deductions.specs.Machine.{M, inner, remaining, bound}
 
 -- phrase k is a row of the text; so many phrases from a place on are
 abbrev pub In : ℕ → Text → Type 0
@@ -31,11 +31,11 @@ pub record Setting (x : Text) (fs : List Form) (e : Env) (β : List Form) (s : S
   pub based : Based fs (m .base) b β
 
 -- room for a propositions, c bindings, t tokens and u numbers on a base of b, besides four propositions, four bindings, eleven tokens and one
--- number for a unit of the work left
+-- number for each evaluation that may still begin
 pub record Room (m : M) (b a c t u : ℕ) : Type 0 where
   pub inner : RoomE (inner m) a c
-  pub tokens : m .at .tokens + 11 * work m + t ≤ length (m .tokens)
-  pub base : b + work m + u ≤ length (m .base)
+  pub tokens : m .at .tokens + 11 * remaining m + t ≤ length (m .tokens)
+  pub base : b + remaining m + u ≤ length (m .base)
   pub short : length (m .tokens) ≤ 16384
   pub small : length (m .base) ≤ 16384
 

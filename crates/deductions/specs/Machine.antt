@@ -6,7 +6,7 @@ use Prim.Native.Nat.{ℕ, zero, suc, _+_, _*_, _-_, _<_, _≤_}
 use lib.ListN.{length, set, take}
 use lib.Seq.{sets}
 use lib.Dec.{eqb}
-use Rattle.language.specs.Refusals.{wrong-kind, wrong-shapes, premise-missing, announced-differs, not-false}
+use Rattle.language.specs.Refusals.{wrong-kind, announced-differs, not-false}
 use Rattle.language.specs.Form.{cond}
 use Rattle.forms.specs.Word.{code, negR, binR}
 use Rattle.forms.specs.Interned.{Interned}
@@ -16,7 +16,7 @@ use Rattle.bindings.specs.declared.Value.the-variants.{Prop, Constructor, Rule,
 use Rattle.bindings.specs.Numbers.{valueAt, nextAt}
 use Rattle.rules.specs.declared.Applied.{Applied}
 use Rattle.rules.specs.declared.Applied.the-variants.{Given, Misshapen, Missing}
-use Rattle.rules.specs.Applied.{Ruling}
+use Rattle.rules.specs.Applied.{Ruling, appliedNumber}
 use Rattle.expressions.specs.declared.State.{State}
 use Rattle.expressions.specs.Machine.{counters, mk as mkE, M as ME}
 use Rattle.deductions.specs.declared.Progress.{Progress}
@@ -49,15 +49,16 @@ progress st n = record { state = st; tokens = n }
 abbrev pub inner : M → ME
 inner m = mkE (m .forms) (m .binds) (m .at .state)
 
-abbrev pub work : M → ℕ
-work m = m .at .state .work
+-- what is left of the budget, and how many bindings are made
+abbrev pub remaining : M → ℕ
+remaining m = m .at .state .remaining .0
 
 abbrev pub bound : M → ℕ
 bound m = m .at .state .bindings
 
 -- one unit of the budget spent
 abbrev pub begun : Progress → Progress
-begun at = progress (counters (at .state .props) (at .state .bindings) (at .state .work - 1)) (at .tokens)
+begun at = progress (counters (at .state .props) (at .state .bindings) (at .state .remaining .0 - 1)) (at .tokens)
 
 abbrev pub spent : M → M
 spent m = mk (m .forms) (m .binds) (m .base) (m .tokens) (begun (m .at))
@@ -128,14 +129,14 @@ Long t e (suc n) = (0 < e) × (4 * (e - 1) + 4 ≤ length t) × Long t (nextAt t
 -- a conditional formed in the table
 pub record Implied (p q : ℕ) (at : Progress) (t₀ t : List ℕ) (x : Conclusion) : Type 0 where
   pub formed : Formed
-  pub outcome : x ≡ Concluded (formed .at) (progress (counters (formed .size) (at .state .bindings) (at .state .work)) (at .tokens))
+  pub outcome : x ≡ Concluded (formed .at) (progress (counters (formed .size) (at .state .bindings) (at .state .remaining .0)) (at .tokens))
   pub interned : Interned (code (binR cond p q)) (at .state .props) t₀ t formed
 
 -- a rule's answer as a conclusion
 unfoldable pub inferredOf : Progress → ℕ → ℕ → Applied → Conclusion
-inferredOf at n k (Given p m) = Concluded p (progress (counters m (at .state .bindings) (at .state .work)) (at .tokens + 2 + n))
-inferredOf at n k Misshapen = Refused wrong-shapes k
-inferredOf at n k Missing = Refused premise-missing k
+inferredOf at n k (Given p m) = Concluded p (progress (counters m (at .state .bindings) (at .state .remaining .0)) (at .tokens + 2 + n))
+inferredOf at n k Misshapen = Refused (appliedNumber Misshapen) k
+inferredOf at n k Missing = Refused (appliedNumber Missing) k
 
 -- what rule r gives of n arguments x, y and z, and the tokens that tell it
 pub record Inferred (at : Progress) (b r n x y z k : ℕ) (t₀ t s u₀ u : List ℕ) (c : Conclusion) : Type 0 where
@@ -159,7 +160,7 @@ pub record Refutation (p : ℕ) (at : Progress) (t₀ t u₀ u : List ℕ) (c : 
   pub second : Interned (code (negR 1)) (implied .size) once twice absurd
   pub third : Interned (code (negR p)) (absurd .size) twice t denied
   pub told : take (at .tokens + 7) u ≡ take (at .tokens) u₀ ++ tollens (implied .at) (absurd .at)
-  pub outcome : c ≡ Concluded (denied .at) (progress (counters (denied .size) (at .state .bindings) (at .state .work)) (at .tokens + 7))
+  pub outcome : c ≡ Concluded (denied .at) (progress (counters (denied .size) (at .state .bindings) (at .state .remaining .0)) (at .tokens + 7))
 
 -- p refuted where q is false, else the refusal
 pub record Refuted (p q k : ℕ) (at : Progress) (t₀ t u₀ u : List ℕ) (c : Conclusion) : Type 0 where

@@ -6,16 +6,16 @@ use mathlib.Core.List.{List, _++_}
 use lib.ListN.{take}
 use Rattle.language.specs.Form.{Form}
 use Rattle.language.specs.Values.{Val, Out, out, stop}
-use Rattle.language.specs.Run.{Derived, evaluate, deduce}
+use Rattle.language.specs.Run.{Derived}
 use Rattle.forms.specs.Table.{number-of}
 use Rattle.forms.proofs.Trees.{number-at}
 use Rattle.expressions.specs.Machine as expressions
 use Rattle.expressions.specs.Meets as expressions-meets
-use Rattle.deductions.specs.Machine.{M, inner, work, MOut, concluded, refused}
+use Rattle.deductions.specs.Machine.{M, inner, remaining, MOut, concluded, refused}
 use Rattle.deductions.specs.Meets.{Meets}
-use Rattle.determined.specs.Alike.{Values-alike, Evaluate-alike, Conclusions-alike, Deduce-alike, Conclusion-number}
+use Rattle.determined.specs.Alike.{Values-alike, Conclusions-alike, Conclusion-number}
 
-values-by : (rows : List (List ℕ)) (m : expressions.M) (fs : List Form) (r : Out Val) (o o′ : expressions.MOut) →
+pub values-by : (rows : List (List ℕ)) (m : expressions.M) (fs : List Form) (r : Out Val) (o o′ : expressions.MOut) →
     expressions-meets.Meets 0 0 rows m fs o r → expressions-meets.Meets 0 0 rows m fs o′ r → Values-alike rows fs o o′
 unfolding expressions-meets.Meets Values-alike
 values-by rows m fs (out X w) (expressions.done v m₁) (expressions.done v′ m₂) (gs, g, x, e) (gs′, g′, x′, e′) =
@@ -26,13 +26,7 @@ values-by rows m fs (stop a b) (expressions.done v m₁) o′ x y = absurd x
 values-by rows m fs (stop a b) (expressions.refused n k) (expressions.done v m₁) x y = absurd y
 values-by rows m fs (stop a b) (expressions.refused n k) (expressions.refused n′ k′) x y = (x .0 ∙ sym (y .0), x .1 ∙ sym (y .1))
 
-pub evaluate-alike : Evaluate-alike
-unfolding Evaluate-alike
-evaluate-alike s d env k m o o′ r E E′ =
-    values-by (r .text .rows) m (r .formed) (evaluate (r .text .phrases) d (r .bound) k (m .st .work)) o o′
-    (E .meets (r .text) (r .formed) (r .bound) (r .world) (r .row) (r .chain)) (E′ .meets (r .text) (r .formed) (r .bound) (r .world) (r .row) (r .chain))
-
-conclusions-by : (b : ℕ) (m : M) (fs : List Form) (r : Out Derived) (o o′ : MOut) → Meets 0 0 0 b m fs o r → Meets 0 0 0 b m fs o′ r → Conclusions-alike fs m o o′
+pub conclusions-by : (b : ℕ) (m : M) (fs : List Form) (r : Out Derived) (o o′ : MOut) → Meets 0 0 0 b m fs o r → Meets 0 0 0 b m fs o′ r → Conclusions-alike fs m o o′
 unfolding Meets Conclusions-alike
 conclusions-by b m fs (out d w) (concluded p m₁) (concluded p′ m₂) (gs, ts, g, x, t, e) (gs′, ts′, g′, x′, t′, e′) = (
   e ∙ sym e′,
@@ -47,12 +41,6 @@ conclusions-by b m fs (out d w) (refused n k) o′ x y = absurd x
 conclusions-by b m fs (stop u v) (concluded p m₁) o′ x y = absurd x
 conclusions-by b m fs (stop u v) (refused n k) (concluded p m₁) x y = absurd y
 conclusions-by b m fs (stop u v) (refused n k) (refused n′ k′) x y = (x .0 ∙ sym (y .0), x .1 ∙ sym (y .1))
-
-pub deduce-alike : Deduce-alike
-unfolding Deduce-alike
-deduce-alike s d env b k m o o′ r D D′ =
-    conclusions-by b m (r .formed) (deduce (r .text .phrases) d (r .bindings) (r .basis) k (work m)) o o′
-    (D .meets (r .text) (r .formed) (r .bindings) (r .basis) (r .setting) (r .row)) (D′ .meets (r .text) (r .formed) (r .bindings) (r .basis) (r .setting) (r .row))
 
 pub conclusion-number : Conclusion-number
 unfolding Conclusion-number

@@ -1,3 +1,4 @@
-// Determinacy: for every public function of the project, any two results that its contract allows are equal, answer and buffers.
-// specs/Once.antt has the statements by the shape of the contract, with the public functions that have that shape, and says where the others are.
-// What a contract leaves open is in specs/Alike.antt, with what it fixes nevertheless. Proofs of both stand under the same names.
+// Determinacy: any two results that a public function's contract allows are equal, answer and buffers.
+// specs/Once.antt says what that is for any contract. The files beside it have a line for each public function, over what a caller learns of its own contract, a file for each crate.
+// Where a contract leaves something open its line says what is fixed: `certificates::write` but for the listing, `expressions::evaluate` and `deductions::deduce` up to what a result stands for (specs/Alike.antt).
+// Proofs stand under the same names.

@@ -3,7 +3,7 @@ use Prim.Native.Nat.{ℕ}
 use native.Mathlib.Omega.{arith}
 use mathlib.Core.Path.{_≡_, refl, sym, ap, _∙_}
 use mathlib.Core.List.{List, [], _∷_}
-use lib.ListN.{take, replicate}
+use lib.ListN.{length, take, replicate}
 use Rattle.language.specs.Syntax.{Sheet}
 use Rattle.language.specs.Numbers.{got}
 use Rattle.language.specs.Read.{sheet}
@@ -19,13 +19,15 @@ use Rattle.language.specs.declared.Inferences.{Inferences}
 use Rattle.language.specs.declared.Evaluated.{Evaluated}
 use Rattle.language.specs.declared.Evaluated.the-variants.{Accepted, Refused}
 use Rattle.theorems.proofs.Lists.{clash}
-use Rattle.theorems.specs.Demands.{Deduces-exactly}
+use Rattle.theorems.specs.Demands.{Deduces-exactly, Accepts-exactly}
 use Rattle.theorems.proofs.ShutOut.{sheet-of, S₁, c1-reads, first, first-derived}
 use Rattle.theorems.proofs.Exact.{interpreted, determined}
+use Rattle.theorems.proofs.Accepting.{accepts-exactly}
 use Rattle.evaluator.proofs.Scratch.{door-finished}
-use Rattle.doors.proofs.Demanded.{accepted-same}
+use Rattle.doors.specs.Demands.{Evaluate-exactly}
+use Rattle.doors.proofs.Demanded.{accepted-same, evaluate-exactly}
 use Rattle.doors.proofs.Ones.{ones, ones-enough, wiped-not}
-use Rattle.doors.specs.Wrong.{Evaluator, Has-evaluate, Refuses-everything, Emits-true-intro, Writes-nothing, Runs-first-step, Spends-the-budget, Infers-its-work, Leaves-evaluation-scratch, Believes-announced, Writes-what-fits}
+use Rattle.doors.specs.Wrong.{Evaluator, Has-evaluate, Meets-demand-2, Refuses-everything, Emits-true-intro, Writes-nothing, Runs-first-step, Spends-the-budget, Infers-its-work, Leaves-evaluation-scratch, Believes-announced, Writes-what-fits, Accepts-what-is-there}
 
 -- an answer by its numbers
 accepted-by : (r : Evaluated) (n w i : ℕ) → evaluatedNumbers r ≡ 0 ∷ (n ∷ (w ∷ (i ∷ []))) → r ≡ Accepted n (record { 0 = w }) (record { 0 = i })
@@ -77,6 +79,18 @@ c8-answer = refl
 not-first : c1-certificate ≡ fronted (certificate first) room → ⊥
 unfolding certificate fronted
 not-first e = clash cc
+
+-- C1 is derived, so that demand 2 has it accepted, though the output holds nines
+pub what-is-there-unmet : (E : Evaluator) → Meets-demand-2 E → Accepts-what-is-there E → ⊥
+unfolding Meets-demand-2 Accepts-what-is-there Accepts-exactly fronted
+what-is-there-unmet E meets h =
+    let (d, derives, spent, is, rules, fits) = accepts-exactly c1 S₁ 43 12 24 c1-certificate 11 3 c1-reads (omega arith) .0 c1-answer in
+    let exactly = meets c1 12 room (ones evaluationLengths) (omega arith) (ones-enough evaluationLengths) S₁ 43 c1-reads 24 11 3 in
+    let numbers = exactly .0 .1 (d, derives, spent, ap length is, rules, omega arith) in
+    let accepts = accepted-by (E c1 12 room (ones evaluationLengths) .answer) 24 11 3 numbers in
+    let there = h c1 S₁ 43 12 24 (record { 0 = 11 }) (record { 0 = 3 }) room (ones evaluationLengths) d 11 (omega arith) c1-reads derives accepts in
+    let e : room ≡ fronted c1-certificate room = there ∙ ap (λ (b : List ℕ). fronted b room) (sym is) in
+    clash cc
 
 module _ (E : Evaluator) (has : Has-evaluate E) where
   on-c1 : _≡_ {A = Evaluation}
@@ -170,3 +184,11 @@ module _ (E : Evaluator) (has : Has-evaluate E) where
       let e = h c1 12 24 (record { 0 = 11 }) (record { 0 = 3 }) (9 ∷ []) room (ones evaluationLengths) c1-accepted (omega arith) in
       let f : _≡_ {A = List ℕ} (9 ∷ []) (4 ∷ []) = sym c1-kept ∙ e ∙ ap (take 1) c1-output in
       clash cc
+
+  meets : Meets-demand-2 E
+  unfolding Meets-demand-2 Has-evaluate Evaluate-exactly
+  meets s budget out₀ bs₀ =
+      evaluate-exactly s budget (E s budget out₀ bs₀ .answer) out₀ (E s budget out₀ bs₀ .output) bs₀ (E s budget out₀ bs₀ .scratch) (has s budget out₀ bs₀)
+
+  pub what-is-there-shut-out : Accepts-what-is-there E → ⊥
+  what-is-there-shut-out = what-is-there-unmet E meets

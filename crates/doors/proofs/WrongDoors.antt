@@ -1,24 +1,30 @@
 -- Such doors there are: each of these does what a description of specs/Wrong.antt says, so it is the contract that shuts it out.
 use Prim.Native.Nat.{ℕ}
 use native.Mathlib.Omega.{arith}
-use mathlib.Core.Path.{_≡_, refl, sym, ap, _∙_}
+use mathlib.Core.Path.{_≡_, refl, sym, ap, ap₂, _∙_}
+use mathlib.Core.Bool.{Bool, true, false, _&&_, and-eq-true-iff}
 use mathlib.Core.List.{List, [], _∷_, _++_}
+use lib.ListN.{length}
+use lib.Dec.{eqb}
+use borrow.Author.Tests.{eqb-true}
 use Rattle.language.specs.Syntax.{Sheet, Phrase, expr, dedu, apply, assume, suppose, dlet, by, block, dmatch, phraseAt}
-use Rattle.language.specs.Numbers.{Got, got, no}
+use Rattle.language.specs.Numbers.{Got, got, no, pick}
 use Rattle.language.specs.Read.{sheet}
 use Rattle.language.specs.Values.{empty, Out, out, stop}
 use Rattle.language.specs.Run.{Derived, deduce}
 use Rattle.language.specs.Derives.{Derives}
 use Rattle.language.specs.Certificate.{certificate}
+use Rattle.language.specs.Answer.{Answer, accepted, refused, answer}
 use Rattle.language.specs.Doors.{fronted}
 use Rattle.language.specs.declared.Work.{Work}
 use Rattle.language.specs.declared.Inferences.{Inferences}
-use Rattle.theorems.specs.Demands.{Deduces-exactly}
-use Rattle.theorems.proofs.Exact.{interpreted}
+use Rattle.theorems.specs.Demands.{Deduces-exactly, Accepts-exactly}
+use Rattle.theorems.proofs.Exact.{interpreted, determined}
+use Rattle.theorems.proofs.Accepting.{accepts-exactly}
 use Rattle.language.specs.declared.Evaluated.the-variants.{Accepted, Refused}
 use Rattle.language.specs.declared.Checked.the-variants.{Stands, Falls}
 use Rattle.theorems.proofs.Lists.{clash}
-use Rattle.doors.specs.Wrong.{Evaluator, Refuses-everything, Emits-true-intro, Writes-nothing, Spends-the-budget, Infers-its-work, Leaves-evaluation-scratch, Runs-first-step, Believes-announced, Writes-what-fits, Evaluating, Checker, Accepts-all, Refuses-all, Ignores-base, Ignores-conclusion, Counts-none, Leaves-check-scratch}
+use Rattle.doors.specs.Wrong.{Evaluator, Refuses-everything, Emits-true-intro, Writes-nothing, Spends-the-budget, Infers-its-work, Leaves-evaluation-scratch, Runs-first-step, Believes-announced, Writes-what-fits, Accepts-what-is-there, Evaluating, Checker, Accepts-all, Refuses-all, Ignores-base, Ignores-conclusion, Counts-none, Leaves-check-scratch}
 
 -- it refuses, and touches nothing
 abbrev refuser : Evaluator
@@ -116,6 +122,46 @@ hasty-runs-first-step s S end budget j js n w i out₀ bs₀ reads root h =
     ap (λ (g : Got Sheet). over g budget out₀ bs₀) reads ∙ ap (λ (p : Phrase). begun S budget p out₀ bs₀) root in
     let (d, u, x, e) = ran-first S budget j n w i out₀ bs₀ r refl (sym (ap (λ (v : Evaluating). v .answer) same) ∙ h) in
     (d, u, x, ap (λ (v : Evaluating). v .output) same ∙ e)
+
+-- it answers as the definitions do, but refuses unless the output begins with the certificate
+unfoldable pub begins : List ℕ → List ℕ → Bool
+begins [] out₀ = true
+begins (b ∷ bytes) [] = false
+begins (b ∷ bytes) (x ∷ out₀) = eqb b x && begins bytes out₀
+
+begins-fronted : (bytes out₀ : List ℕ) → begins bytes out₀ ≡ true → out₀ ≡ fronted bytes out₀
+unfolding begins fronted
+begins-fronted [] out₀ e = refl
+begins-fronted (b ∷ bytes) [] e = absurd (clash cc)
+begins-fronted (b ∷ bytes) (x ∷ out₀) e =
+    let (one, rest) = and-eq-true-iff (eqb b x) (begins bytes out₀) .0 e in
+    ap₂ _∷_ (sym (eqb-true b x one)) (begins-fronted bytes out₀ rest)
+
+unfoldable pub kept : Answer → List ℕ → List (List ℕ) → Evaluating
+unfolding pick
+kept (accepted bytes w i) out₀ bs₀ =
+    record { answer = pick (begins bytes out₀) (Accepted (length bytes) (record { 0 = w }) (record { 0 = i })) (Refused 18 0); output = out₀; scratch = bs₀ }
+kept (refused n p) out₀ bs₀ = record { answer = Refused n p; output = out₀; scratch = bs₀ }
+
+abbrev keeper : Evaluator
+keeper s budget out₀ bs₀ = kept (answer s budget (length out₀)) out₀ bs₀
+
+kept-begins : (a : Answer) (out₀ : List ℕ) (bs₀ : List (List ℕ)) (n : ℕ) (w : Work) (i : Inferences) → kept a out₀ bs₀ .answer ≡ Accepted n w i →
+    (bytes : List ℕ) × (v : ℕ) × (j : ℕ) × (a ≡ accepted bytes v j) × (begins bytes out₀ ≡ true)
+unfolding kept pick
+kept-begins (accepted bytes v j) out₀ bs₀ n w i e = (bytes, v, j, refl, by-test (begins bytes out₀) refl e)
+  where
+    by-test : (t : Bool) → begins bytes out₀ ≡ t → pick t (Accepted (length bytes) (record { 0 = v }) (record { 0 = j })) (Refused 18 0) ≡ Accepted n w i → begins bytes out₀ ≡ true
+    by-test true f e = f
+    by-test false f e = absurd (clash cc)
+kept-begins (refused m p) out₀ bs₀ n w i e = absurd (clash cc)
+
+pub keeper-accepts-what-is-there : Accepts-what-is-there keeper
+unfolding Accepts-what-is-there Accepts-exactly
+keeper-accepts-what-is-there s S end budget n w i out₀ bs₀ d u small reads derives e =
+    let (bytes, v, j, is, f) = kept-begins (answer s budget (length out₀)) out₀ bs₀ n w i e in
+    let (d′, derives′, _, bytes-are, _, _) = accepts-exactly s S end budget (length out₀) bytes v j reads small .0 is in
+    begins-fronted bytes out₀ f ∙ ap (λ (b : List ℕ). fronted b out₀) (bytes-are ∙ ap certificate (determined derives′ derives .0))
 
 -- it lets everything stand, with no inference, and touches nothing
 abbrev nodder : Checker

@@ -20,6 +20,8 @@ use Rattle.language.specs.declared.Checked.{Checked}
 use Rattle.language.specs.declared.Checked.the-variants.{Stands, Falls}
 use Rattle.evaluator.specs.Door.{Evaluates}
 use Rattle.checker.specs.Verdicts.{scratch, Checks}
+use Rattle.theorems.specs.Demands.{Sheet-derives}
+use Rattle.doors.specs.Demands.{Answers-exactly}
 
 -- what an evaluation answers and leaves
 pub record Evaluating : Type 0 where
@@ -36,6 +38,12 @@ unfoldable pub Has-evaluate : Evaluator → Type 0
 Has-evaluate E =
     (s : List ℕ) (budget : ℕ) (out₀ : List ℕ) (bs₀ : List (List ℕ)) →
     Evaluates s budget (E s budget out₀ bs₀ .answer) out₀ (E s budget out₀ bs₀ .output) bs₀ (E s budget out₀ bs₀ .scratch)
+
+-- it meets demand 2, as `Evaluate-exactly` has it of `evaluate`
+unfoldable pub Meets-demand-2 : Evaluator → Type 0
+Meets-demand-2 E =
+    (s : List ℕ) (budget : ℕ) (out₀ : List ℕ) (bs₀ : List (List ℕ)) → budget ≤ 1024 → enough evaluationLengths bs₀ ≡ true →
+    (S : Sheet) (end : ℕ) → sheet s ≡ got S end → Answers-exactly S budget (E s budget out₀ bs₀ .answer) out₀ (E s budget out₀ bs₀ .output)
 
 -- it refuses everything
 unfoldable pub Refuses-everything : Evaluator → Type 0
@@ -85,6 +93,12 @@ unfoldable pub Writes-what-fits : Evaluator → Type 0
 Writes-what-fits E =
     (s : List ℕ) (budget n : ℕ) (w : Work) (i : Inferences) (out₀ out₁ : List ℕ) (bs₀ : List (List ℕ)) → E s budget out₁ bs₀ .answer ≡ Accepted n w i →
     length out₀ < n → E s budget out₀ bs₀ .output ≡ take (length out₀) (E s budget out₁ bs₀ .output)
+
+-- it accepts only where the output already holds the certificate; demand 2 alone shuts it out
+unfoldable pub Accepts-what-is-there : Evaluator → Type 0
+Accepts-what-is-there E =
+    (s : List ℕ) (S : Sheet) (end budget n : ℕ) (w : Work) (i : Inferences) (out₀ : List ℕ) (bs₀ : List (List ℕ)) (d : Derived) (u : ℕ) →
+    budget ≤ 1024 → sheet s ≡ got S end → Sheet-derives S d u → E s budget out₀ bs₀ .answer ≡ Accepted n w i → out₀ ≡ fronted (certificate d) out₀
 
 -- what a check answers and leaves
 pub record Checked-so : Type 0 where

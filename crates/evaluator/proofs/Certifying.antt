@@ -22,7 +22,7 @@ use Rattle.evaluator.specs.Parts.{Certifies}
 
 -- the answer for what was written, so much work spent
 unfoldable pub told : ℕ → Written → Evaluated
-told spent (Done n i) = Accepted n (record { 0 = spent }) (record { 0 = i })
+told spent (Done n i) = Accepted n (record { 0 = spent }) i
 told spent Short = Refused 18 0
 
 certified-gives : (d : Derived) (out₀ out : List ℕ) (spent : ℕ) (x : Written) → Certified d out₀ x out →
@@ -32,7 +32,7 @@ certified-gives d out₀ out spent x C = by-room (leb (length (certificate d)) (
   where
     by-room : (b : Bool) → leb (length (certificate d)) (length out₀) ≡ b → Gives (written (length out₀) (certificate d) spent (inferences (d .proof))) out₀ (told spent x) out
     by-room true e =
-        let is : x ≡ Done (length (certificate d)) (inferences (d .proof)) = C .answer ∙ rw e in
+        let is : x ≡ Done (length (certificate d)) (record { 0 = inferences (d .proof) }) = C .answer ∙ rw e in
         record { numbers = rw (e, is); output = C .output ∙ rw e }
     by-room false e =
         let is : x ≡ Short = C .answer ∙ rw e in
@@ -40,5 +40,5 @@ certified-gives d out₀ out spent x C = by-room (leb (length (certificate d)) (
 
 module _ (forms tokens listing : List ℕ) (p : ℕ) (at : Progress) (budget : ℕ) (out₀ out : List ℕ) (x : Written)
     (W : Writes forms (at .state .props) tokens (at .tokens) p listing out₀ x out) where
-  pub certifies : (r : Evaluated) → r ≡ told (budget - at .state .work) x → Certifies forms tokens listing p at budget out₀ r out
-  certifies r e = record { gives = λ y. rw e (certified-gives (y .derived) out₀ out (budget - at .state .work) x (W .certified y)) }
+  pub certifies : (r : Evaluated) → r ≡ told (budget - at .state .remaining .0) x → Certifies forms tokens listing p at budget out₀ r out
+  certifies r e = record { gives = λ y. rw e (certified-gives (y .derived) out₀ out (budget - at .state .remaining .0) x (W .certified y)) }

@@ -17,7 +17,7 @@ use Rattle.expressions.specs.Machine.{Shared}
 use Rattle.deductions.specs.declared.Progress.{Progress}
 use Rattle.deductions.specs.declared.Conclusion.{Conclusion}
 use Rattle.deductions.specs.declared.Conclusion.the-variants.{Concluded, Refused as Stopped}
-use Rattle.deductions.specs.Machine.{M, mk, concluded, refused, outOf, work}
+use Rattle.deductions.specs.Machine.{M, mk, concluded, refused, outOf, remaining}
 use Rattle.deductions.specs.Asked.{Room}
 use Rattle.deductions.specs.Meets.{Meets, Deduced}
 use Rattle.certificates.specs.Certified.{Writing}
@@ -32,8 +32,8 @@ module _ (m : M) (b p : ℕ) (m′ : M) (listing : List ℕ) (room : Room m b 0 
     is : o ≡ out d left
     writing : Writing (m′ .forms) (m′ .at .state .props) (m′ .tokens) (m′ .at .tokens) p listing
     same : writing .derived ≡ d
-    rest : work m′ ≡ left
-    spent : work m′ ≤ work m
+    rest : remaining m′ ≡ left
+    spent : remaining m′ ≤ remaining m
 
   writing-from : (fs : List Form) (o : Out Derived) → Meets 0 0 0 b m fs (concluded p m′) o → Written-from o
   unfolding Meets
@@ -91,22 +91,22 @@ module _ (s : Shared) (m : M) (b k : ℕ) (listing : List ℕ) (none : m .at .to
       deduced = subst (λ (c : Conclusion). Deduced s 64 0 b k m (outOf f v u t c)) e D
 
       -- the certificate may be written
-      pub run-ends : Ending f t listing p at (work m)
+      pub run-ends : Ending f t listing p at (remaining m)
       run-ends =
           let r = R .ready in
-          let W = writing-from m b p m′ listing (r .room) none (R .listed) (R .formed) (r .formed) (deduce (r .text .phrases) 64 (r .bindings) (r .basis) k (work m))
+          let W = writing-from m b p m′ listing (r .room) none (R .listed) (R .formed) (r .formed) (deduce (r .text .phrases) 64 (r .bindings) (r .basis) k (remaining m))
           (deduced .meets (r .text) (r .formed) (r .bindings) (r .basis) (r .setting) (r .row)) in
           record { writing = W .writing; spent = W .spent }
 
       -- and its answer is the run's
-      pub run-gives : (out₀ o : List ℕ) (z : Evaluated) → Certifies f t listing p at (work m) out₀ z o → Runs s m b k out₀ z o
+      pub run-gives : (out₀ o : List ℕ) (z : Evaluated) → Certifies f t listing p at (remaining m) out₀ z o → Runs s m b k out₀ z o
       run-gives out₀ o z C =
           record {
             gives = λ y fs β S I.
-                let run = deduce (y .phrases) 64 empty β k (work m) in
+                let run = deduce (y .phrases) 64 empty β k (remaining m) in
                 let W = writing-from m b p m′ listing (R .ready .room) none (R .listed) (R .formed) fs run (deduced .meets y fs empty β S I) in
-                let is : ended (work m) (length out₀) run ≡ written (length out₀) (certificate (W .writing .derived)) (work m - at .state .work) (inferences (W .writing .derived .proof))
-                = ap (ended (work m) (length out₀)) (W .is) ∙ ended-written (work m) (length out₀) (W .d) (W .writing .derived) (W .left) (at .state .work) (W .same) (W .rest) in
+                let is : ended (remaining m) (length out₀) run ≡ written (length out₀) (certificate (W .writing .derived)) (remaining m - at .state .remaining .0) (inferences (W .writing .derived .proof))
+                = ap (ended (remaining m) (length out₀)) (W .is) ∙ ended-written (remaining m) (length out₀) (W .d) (W .writing .derived) (W .left) (at .state .remaining .0) (W .same) (W .rest) in
                 rw is (C .gives (W .writing));
           }
 
@@ -115,5 +115,5 @@ module _ (s : Shared) (m : M) (b k : ℕ) (listing : List ℕ) (none : m .at .to
     run-stops n place e out₀ =
         record {
           gives = λ y fs β S I.
-              refused-gives (work m) n place out₀ b m fs (deduce (y .phrases) 64 empty β k (work m)) (subst (λ (c : Conclusion). Deduced s 64 0 b k m (outOf f v u t c)) e D .meets y fs empty β S I);
+              refused-gives (remaining m) n place out₀ b m fs (deduce (y .phrases) 64 empty β k (remaining m)) (subst (λ (c : Conclusion). Deduced s 64 0 b k m (outOf f v u t c)) e D .meets y fs empty β S I);
         }

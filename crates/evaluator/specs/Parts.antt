@@ -12,7 +12,7 @@ use Rattle.language.specs.declared.Evaluated.{Evaluated}
 use Rattle.expressions.specs.Machine.{Shared, kind, counters}
 use Rattle.expressions.specs.Asked.{Text}
 use Rattle.deductions.specs.declared.Progress.{Progress}
-use Rattle.deductions.specs.Machine.{M, mk, work, progress}
+use Rattle.deductions.specs.Machine.{M, mk, progress, remaining}
 use Rattle.deductions.specs.Asked.{In, Setting, Ready}
 use Rattle.certificates.specs.Certified.{Writing}
 use Rattle.evaluator.specs.Door.{Gives}
@@ -31,14 +31,14 @@ pub record Rooted (s : Shared) (m : M) (b k : ℕ) (listing : List ℕ) : Type 0
 -- whatever phrases and base the state stands for, the answer is that of the definitions' run
 pub record Runs (s : Shared) (m : M) (b k : ℕ) (out₀ : List ℕ) (r : Evaluated) (out : List ℕ) : Type 0 where
   pub gives : (x : Text) (fs β : List Form) → Setting x fs empty β s m 0 b → In k x →
-      Gives (ended (work m) (length out₀) (deduce (x .phrases) 64 empty β k (work m))) out₀ r out
+      Gives (ended (remaining m) (length out₀) (deduce (x .phrases) 64 empty β k (remaining m))) out₀ r out
 
 -- a run has ended with the conclusion p
 pub record Ending (forms tokens listing : List ℕ) (p : ℕ) (at : Progress) (budget : ℕ) : Type 0 where
   pub writing : Writing forms (at .state .props) tokens (at .tokens) p listing
-  pub spent : at .state .work ≤ budget
+  pub spent : at .state .remaining .0 ≤ budget
 
 -- the answer is the certificate's, where there is room for it
 pub record Certifies (forms tokens listing : List ℕ) (p : ℕ) (at : Progress) (budget : ℕ) (out₀ : List ℕ) (r : Evaluated) (out : List ℕ) : Type 0 where
   pub gives : (x : Writing forms (at .state .props) tokens (at .tokens) p listing) →
-      Gives (written (length out₀) (certificate (x .derived)) (budget - at .state .work) (inferences (x .derived .proof))) out₀ r out
+      Gives (written (length out₀) (certificate (x .derived)) (budget - at .state .remaining .0) (inferences (x .derived .proof))) out₀ r out

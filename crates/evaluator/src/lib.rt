@@ -17,7 +17,7 @@ use deductions::Progress;
 use deductions::Site;
 use expressions::State;
 use language::Evaluated;
-use language::Inferences;
+use language::Remaining;
 use language::Work;
 use language::refusal;
 use reader::Counts;
@@ -29,9 +29,9 @@ pub const LISTING: usize = 9220;
 
 pub const FORMS: usize = 4610;
 
-pub const PATTERNS: usize = 640;
+pub const PATTERNS: usize = reader::PATTERNS;
 
-pub const PHRASES: usize = 6144;
+pub const PHRASES: usize = reader::PHRASES;
 
 pub const BASE: usize = 1088;
 
@@ -40,10 +40,10 @@ pub const BINDINGS: usize = 16384;
 pub const TOKENS: usize = 11264;
 
 // The largest budget.
-const BUDGET: usize = 1024;
+pub const BUDGET: usize = 1024;
 
 // How deep evaluations may stand in each other, the outermost counted.
-const NESTING: usize = 64;
+pub const NESTING: usize = 64;
 
 // The evaluation of a sheet. A budget over its limit and a buffer shorter than fixed are refused with everything as it was;
 // else each buffer of the scratch ends zero up to its fixed length and untouched past it, and the output is touched only by a certificate.
@@ -190,11 +190,12 @@ fn run(
     requires { ⌜ Rooted (shared (now phrases) (now patterns)) (start (now forms) (now binds) (now base) (now tokens) (c .words) budget) (c .base) (c .root) (now listing) ⌝ }
     ensures { λ r. ⌜ Runs (shared (now (phrases .entry)) (now (patterns .entry))) (start (now (forms .entry)) (now (binds .entry)) (now (base .entry)) (now (tokens .entry)) (c .words) budget) (c .base) (c .root) (now (out .entry)) r (now (out .exit)) ⌝ }
 {
+    let remaining = Remaining(budget);
     let at = Progress {
         state: State {
             props: c.words,
             bindings: 0,
-            work: budget,
+            remaining: remaining,
         },
         tokens: 0,
     };
@@ -233,12 +234,13 @@ fn certify(
     ensures { λ r. ⌜ Certifies (now (forms .entry)) (now (tokens .entry)) (now (listing .entry)) p end budget (now (out .entry)) r (now (out .exit)) ⌝ }
 {
     let st = end.state;
+    let remaining = st.remaining;
+    let left = remaining.0;
     match certificates::write(forms, st.props, tokens, end.tokens, p, listing, out) {
-        Written::Done(n, rules) => Evaluated::Accepted(
-            n,
-            Work(budget - st.work),
-            Inferences(rules),
-        ),
+        Written::Done(n, inferences) => {
+            let spent = budget - left;
+            Evaluated::Accepted(n, Work(spent), inferences)
+        }
         Written::Short => Evaluated::Refused(refusal::OUTPUT_SHORT, 0),
     }
 }

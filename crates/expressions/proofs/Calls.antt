@@ -102,7 +102,7 @@ module _ (s : Shared) (d env onto from left : ℕ) (m : M) where
   pub argument-refused : (k n y : ℕ) → (left ≡ 0 → ⊥) → k ≡ getD (s .phrases) from 0 → Evaluated s d env k m (refused n y) → Listed s d env onto from left m (stopped n y)
   unfolding values
   argument-refused k n y h i A = record {
-    meets = λ x fs e f w r c u. rw (list-step left h, ← i) (refused-list (x .rows) fs f n y (evaluate (x .phrases) d e k (m .st .work)) _ (A .meets x fs e w (first-of s env onto from left m x k h i r) c));
+    meets = λ x fs e f w r c u. rw (list-step left h, ← i) (refused-list (x .rows) fs f n y (evaluate (x .phrases) d e k (m .st .remaining .0)) _ (A .meets x fs e w (first-of s env onto from left m x k h i r) c));
   }
 
   more-by : (rows : List (List ℕ)) (fs gs : List Form) (f : Env) (X : Val) (v : Value) (m₁ : M) → (left ≡ 0 → ⊥) → Grew 0 0 m m₁ fs gs
@@ -146,20 +146,20 @@ module _ (s : Shared) (d env onto from left : ℕ) (m : M) where
       let u₁ = chain-grew 0 0 m m₁ fs gs g (x .rows) f onto u in
       let y = B .meets x (fs ++ gs) e (f ▸ X) (world-push m₁ (fs ++ gs) v onto x s w₁) (rest-of s env onto from left m x h r) (chain-push m₁ (fs ++ gs) v onto (x .rows) e env c₁) (pushed (x .rows) (fs ++ gs) (m₁ .binds) (m₁ .st .bindings) onto room f X v u₁ (z .2)) in
       subst (λ (n : ℕ). MeetsArgs left (x .rows) m fs f o (next (values (evaluate (x .phrases) d) e (listed (s .phrases) (from + 1) (left - 1)) n) (λ vs. out (X ∷ vs)))) (z .3)
-      (more-by (x .rows) fs gs f X v m₁ h g o (values (evaluate (x .phrases) d) e (listed (s .phrases) (from + 1) (left - 1)) (m₁ .st .work)) y)
+      (more-by (x .rows) fs gs f X v m₁ h g o (values (evaluate (x .phrases) d) e (listed (s .phrases) (from + 1) (left - 1)) (m₁ .st .remaining .0)) y)
   argument-then x fs e f v m₁ o h w r c u room B (stop n y) z = absurd z
 
   pub argument-more : (k : ℕ) (v : Value) (m₁ : M) (o : MArgs) → (left ≡ 0 → ⊥) → k ≡ getD (s .phrases) from 0 → 4 * m₁ .st .bindings + 4 ≤ length (m₁ .binds) → Evaluated s d env k m (done v m₁)
       → Listed s d env (m₁ .st .bindings + 1) (from + 1) (left - 1) (push m₁ v onto) o → Listed s d env onto from left m o
   unfolding values
   argument-more k v m₁ o h i room A B = record {
-    meets = λ x fs e f w r c u. rw (list-step left h, ← i) (argument-then x fs e f v m₁ o h w r c u room B (evaluate (x .phrases) d e k (m .st .work)) (A .meets x fs e w (first-of s env onto from left m x k h i r) c));
+    meets = λ x fs e f w r c u. rw (list-step left h, ← i) (argument-then x fs e f v m₁ o h w r c u room B (evaluate (x .phrases) d e k (m .st .remaining .0)) (A .meets x fs e w (first-of s env onto from left m x k h i r) c));
   }
 
 pub arg-got : (s : Shared) (d env onto from left k : ℕ) (m m₁ : M) (v : Value) → (left ≡ 0 → ⊥) → k ≡ getD (s .phrases) from 0 → Arglist s m env onto from left → Evaluated s d env k m (done v m₁) → ArgGot s env onto from left m₁ v
 unfolding Meets
 arg-got s d env onto from left k m m₁ v h i a A =
-    go (evaluate (a .text .phrases) d (a .bound) k (m .st .work)) (A .meets (a .text) (a .formed) (a .bound) (a .world) (first-of s env onto from left m (a .text) k h i (a .rows)) (a .chain))
+    go (evaluate (a .text .phrases) d (a .bound) k (m .st .remaining .0)) (A .meets (a .text) (a .formed) (a .bound) (a .world) (first-of s env onto from left m (a .text) k h i (a .rows)) (a .chain))
   where
     go : (q : Out Val) → Meets 0 0 (a .text .rows) m (a .formed) (done v m₁) q → ArgGot s env onto from left m₁ v
     go (out X w) z = record {
@@ -210,7 +210,7 @@ module _ (s : Shared) (d env k : ℕ) (m : M) (is : kind (s .phrases) k ≡ 6) w
   pub call-apply : (n : ℕ) (m₁ : M) (v : Value) (y : ℕ) → n ≡ two (s .phrases) k → Got s m v env k 4 4 → Listed s d env (under v) (12 * k + 3) n m (onto-chain y m₁) → Applicable s m₁ v y n
   unfolding MeetsArgs
   call-apply n m₁ v y i g L =
-      go (values (evaluate (r .text .phrases) d) (r .bound) (listed (s .phrases) (12 * k + 3) n) (m .st .work))
+      go (values (evaluate (r .text .phrases) d) (r .bound) (listed (s .phrases) (12 * k + 3) n) (m .st .remaining .0))
       (L .meets (r .text) (r .formed) (r .bound) (scope (g .value)) (r .world) (λ q l. argument-rows (r .text) (r .formed) s m (r .world) k (r .row) is q (omega arith)) (r .chain)
       (scope-stands (r .text .rows) (r .formed) (m .binds) (m .st .bindings) (g .value) v (g .stands)))
     where
@@ -250,8 +250,8 @@ module _ (s : Shared) (d env k : ℕ) (m : M) (is : kind (s .phrases) k ≡ 6) w
 
     pub operator-refused : (u y : ℕ) → Evaluated s d env a m (refused u y) → Stepped s d env k m (refused u y)
     operator-refused u y A = record {
-      meets = λ x fs e w h c. subst (Meets 4 4 (x .rows) m fs (refused u y)) (sym (call-step x fs w h e (m .st .work)))
-          (passed 0 0 4 4 (x .rows) m m fs fs u y (evaluate (x .phrases) d e a (m .st .work)) (rest x e) (A .meets x fs e w (row-a x fs w h) c));
+      meets = λ x fs e w h c. subst (Meets 4 4 (x .rows) m fs (refused u y)) (sym (call-step x fs w h e (m .st .remaining .0)))
+          (passed 0 0 4 4 (x .rows) m m fs fs u y (evaluate (x .phrases) d e a (m .st .remaining .0)) (rest x e) (A .meets x fs e w (row-a x fs w h) c));
     }
 
     refused-args : (x : Text) (fs : List Form) (e : Env) (v : Value) (m₁ : M) (u y : ℕ) → World x fs s m → Row x k → Chain (x .rows) fs (m .binds) (m .st .bindings) e env
@@ -263,7 +263,7 @@ module _ (s : Shared) (d env k : ℕ) (m : M) (is : kind (s .phrases) k ≡ 6) w
         let w₁ = world-grew 0 0 m m₁ fs gs g x s w in
         let st = scope-stands (x .rows) (fs ++ gs) (m₁ .binds) (m₁ .st .bindings) X v (z .2) in
         subst (λ (l : ℕ). Meets 4 4 (x .rows) m fs (refused u y) (rest x e X l)) (z .3)
-        (go X (values (evaluate (x .phrases) d) e (listed (s .phrases) (12 * k + 3) n) (m₁ .st .work))
+        (go X (values (evaluate (x .phrases) d) e (listed (s .phrases) (12 * k + 3) n) (m₁ .st .remaining .0))
         (L .meets x (fs ++ gs) e (scope X) w₁ (rows-n x fs w h) (chain-grew 0 0 m m₁ fs gs g (x .rows) e env c) st))
       where
         go : (X : Val) (r : Out (List Val)) → MeetsArgs n (x .rows) m₁ (fs ++ z .0) (scope X) (stopped u y) r → Meets 4 4 (x .rows) m fs (refused u y) (next r (λ vs. called (evaluate (x .phrases) d) X vs k))
@@ -273,8 +273,8 @@ module _ (s : Shared) (d env k : ℕ) (m : M) (is : kind (s .phrases) k ≡ 6) w
 
     pub arguments-refused : (u y : ℕ) (v : Value) (m₁ : M) → Evaluated s d env a m (done v m₁) → Listed s d env (under v) (12 * k + 3) n m₁ (stopped u y) → Stepped s d env k m (refused u y)
     arguments-refused u y v m₁ A L = record {
-      meets = λ x fs e w h c. subst (Meets 4 4 (x .rows) m fs (refused u y)) (sym (call-step x fs w h e (m .st .work)))
-          (refused-args x fs e v m₁ u y w h c L (evaluate (x .phrases) d e a (m .st .work)) (A .meets x fs e w (row-a x fs w h) c));
+      meets = λ x fs e w h c. subst (Meets 4 4 (x .rows) m fs (refused u y)) (sym (call-step x fs w h e (m .st .remaining .0)))
+          (refused-args x fs e v m₁ u y w h c L (evaluate (x .phrases) d e a (m .st .remaining .0)) (A .meets x fs e w (row-a x fs w h) c));
     }
 
     apply-by : (x : Text) (fs gs : List Form) (X : Val) (v : Value) (m₁ m₂ : M) (y : ℕ) (o : MOut) → n ≤ 4 → World x (fs ++ gs) s m₁ → Grew 0 0 m m₁ fs gs → Stands (x .rows) (fs ++ gs) (m₁ .binds) (m₁ .st .bindings) X v → Called s d v y n k m₂ o
@@ -285,8 +285,8 @@ module _ (s : Shared) (d env k : ℕ) (m : M) (is : kind (s .phrases) k ≡ 6) w
         let w₂ = world-grew 0 n m₁ m₂ (fs ++ gs) hs (z .1) x s w₁ in
         let s₂ = stands-grew 0 n m₁ m₂ (fs ++ gs) hs (z .1) (x .rows) X v st in
         subst (λ (l : ℕ). Meets 4 4 (x .rows) m fs o (called (evaluate (x .phrases) d) X vs k l)) (z .4)
-        (after 0 0 1 4 4 4 (x .rows) m m₁ fs gs o (called (evaluate (x .phrases) d) X vs k (m₂ .st .work)) g
-        (after 0 n 1 0 1 4 (x .rows) m₁ m₂ (fs ++ gs) hs o (called (evaluate (x .phrases) d) X vs k (m₂ .st .work)) (z .1)
+        (after 0 0 1 4 4 4 (x .rows) m m₁ fs gs o (called (evaluate (x .phrases) d) X vs k (m₂ .st .remaining .0)) g
+        (after 0 n 1 0 1 4 (x .rows) m₁ m₂ (fs ++ gs) hs o (called (evaluate (x .phrases) d) X vs k (m₂ .st .remaining .0)) (z .1)
         (C .meets x ((fs ++ gs) ++ hs) X vs w₂ s₂ (z .2) (z .3)) (omega arith) (omega arith)) (omega arith) (omega arith))
     apply-by x fs gs X v m₁ m₂ y o few w₁ g st C (stop a′ b′) z = absurd z
 
@@ -299,12 +299,12 @@ module _ (s : Shared) (d env k : ℕ) (m : M) (is : kind (s .phrases) k ≡ 6) w
         let w₁ = world-grew 0 0 m m₁ fs gs g x s w in
         let few = few-arguments x fs s m w k h is in
         subst (λ (l : ℕ). Meets 4 4 (x .rows) m fs o (rest x e X l)) (z .3)
-        (apply-by x fs gs X v m₁ m₂ y o (omega arith) w₁ g (z .2) C (values (evaluate (x .phrases) d) e (listed (s .phrases) (12 * k + 3) n) (m₁ .st .work))
+        (apply-by x fs gs X v m₁ m₂ y o (omega arith) w₁ g (z .2) C (values (evaluate (x .phrases) d) e (listed (s .phrases) (12 * k + 3) n) (m₁ .st .remaining .0))
         (L .meets x (fs ++ gs) e (scope X) w₁ (rows-n x fs w h) (chain-grew 0 0 m m₁ fs gs g (x .rows) e env c) (scope-stands (x .rows) (fs ++ gs) (m₁ .binds) (m₁ .st .bindings) X v (z .2))))
     apply-then x fs e v m₁ m₂ y o w h c L C (stop a′ b′) z = absurd z
 
     pub call-is : (y : ℕ) (v : Value) (m₁ m₂ : M) (o : MOut) → Evaluated s d env a m (done v m₁) → Listed s d env (under v) (12 * k + 3) n m₁ (onto-chain y m₂) → Called s d v y n k m₂ o → Stepped s d env k m o
     call-is y v m₁ m₂ o A L C = record {
-      meets = λ x fs e w h c. subst (Meets 4 4 (x .rows) m fs o) (sym (call-step x fs w h e (m .st .work)))
-          (apply-then x fs e v m₁ m₂ y o w h c L C (evaluate (x .phrases) d e a (m .st .work)) (A .meets x fs e w (row-a x fs w h) c));
+      meets = λ x fs e w h c. subst (Meets 4 4 (x .rows) m fs o) (sym (call-step x fs w h e (m .st .remaining .0)))
+          (apply-then x fs e v m₁ m₂ y o w h c L C (evaluate (x .phrases) d e a (m .st .remaining .0)) (A .meets x fs e w (row-a x fs w h) c));
     }

@@ -124,7 +124,7 @@ module _ (rows : List (List ℕ)) (fs : List Form) (t : List ℕ) (n : ℕ) wher
 -- a proposition formed: its record, and what the language constructs
 
 formed-meets : (rows : List (List ℕ)) (m : M) (fs : List Form) (c p q : ℕ) (y : Rec) (F : Form) (t : List ℕ) (o : Outcome) → Table (used m) fs → m .st .props < length (m .forms) → length (m .forms) ≤ 16384
-    → code y ≡ word (3 + c) p q → Below (length (used m)) y → formed fs y ≡ F → Made c p q (m .st) (m .forms) t o → Meets 1 0 rows m fs (outOf t (m .binds) o) (out (form F) (m .st .work))
+    → code y ≡ word (3 + c) p q → Below (length (used m)) y → formed fs y ≡ F → Made c p q (m .st) (m .forms) t o → Meets 1 0 rows m fs (outOf t (m .binds) o) (out (form F) (m .st .remaining .0))
 unfolding Meets Stands
 formed-meets rows m fs c p q y F t o T room small e below f made =
     let n = m .st .props in
@@ -153,7 +153,7 @@ formed-meets rows m fs c p q y F t o T room small e below f made =
       refl,
     )
 
-not-meets : (rows : List (List ℕ)) (m : M) (fs : List Form) (c p : ℕ) (P : Form) (t : List ℕ) (o : Outcome) → Table (used m) fs → m .st .props < length (m .forms) → length (m .forms) ≤ 16384 → c ≡ 0 → Is fs p P → Made c p 0 (m .st) (m .forms) t o → Meets 1 0 rows m fs (outOf t (m .binds) o) (out (form (neg P)) (m .st .work))
+not-meets : (rows : List (List ℕ)) (m : M) (fs : List Form) (c p : ℕ) (P : Form) (t : List ℕ) (o : Outcome) → Table (used m) fs → m .st .props < length (m .forms) → length (m .forms) ≤ 16384 → c ≡ 0 → Is fs p P → Made c p 0 (m .st) (m .forms) t o → Meets 1 0 rows m fs (outOf t (m .binds) o) (out (form (neg P)) (m .st .remaining .0))
 unfolding Below formed
 not-meets rows m fs c p P t o T room small z x made =
     let count = T .count in
@@ -171,7 +171,7 @@ join-code (suc (suc zero)) p q h = refl
 join-code (suc (suc (suc zero))) p q h = refl
 join-code (suc (suc (suc (suc c)))) p q h = absurd (omega arith)
 
-join-meets : (rows : List (List ℕ)) (m : M) (fs : List Form) (c p q : ℕ) (P Q : Form) (t : List ℕ) (o : Outcome) → Table (used m) fs → m .st .props < length (m .forms) → length (m .forms) ≤ 16384 → (c ≡ 0 → ⊥) → c ≤ 4 → Is fs p P → Is fs q Q → Made c p q (m .st) (m .forms) t o → Meets 1 0 rows m fs (outOf t (m .binds) o) (out (form (constructed c (P ∷ (Q ∷ [])))) (m .st .work))
+join-meets : (rows : List (List ℕ)) (m : M) (fs : List Form) (c p q : ℕ) (P Q : Form) (t : List ℕ) (o : Outcome) → Table (used m) fs → m .st .props < length (m .forms) → length (m .forms) ≤ 16384 → (c ≡ 0 → ⊥) → c ≤ 4 → Is fs p P → Is fs q Q → Made c p q (m .st) (m .forms) t o → Meets 1 0 rows m fs (outOf t (m .binds) o) (out (form (constructed c (P ∷ (Q ∷ [])))) (m .st .remaining .0))
 unfolding Below formed constructed conn-of
 join-meets rows m fs zero p q P Q t o T room small z h x y made = absurd (z refl)
 join-meets rows m fs (suc c) p q P Q t o T room small z h x y made =
@@ -238,8 +238,8 @@ module _ (s : Shared) (d c y n k : ℕ) (m : M) where
           let is = con-is (x .rows) fs (m .binds) (m .st .bindings) X c st in
           let u = one-here (x .rows) fs (m .binds) (m .st .bindings) X vs c y n st ch l (j ∙ i) z in
           let P = formed-piece (x .rows) fs (m .binds) (m .st .bindings) (u .last) last-value q (u .stands) (value-is (Formed q) e) in
-          let p : called E X vs k (m .st .work) ≡ out (form (neg (P .0))) (m .st .work) =
-          ap (λ (Y : Val). called E Y vs k (m .st .work)) (is .0) ∙ ap (λ (l : List Val). called E (conV c) l k (m .st .work)) (u .all ∙ ap (λ (Y : Val). Y ∷ []) (P .1)) ∙ called-one E k (m .st .work) c (P .0) z in
+          let p : called E X vs k (m .st .remaining .0) ≡ out (form (neg (P .0))) (m .st .remaining .0) =
+          ap (λ (Y : Val). called E Y vs k (m .st .remaining .0)) (is .0) ∙ ap (λ (l : List Val). called E (conV c) l k (m .st .remaining .0)) (u .all ∙ ap (λ (Y : Val). Y ∷ []) (P .1)) ∙ called-one E k (m .st .remaining .0) c (P .0) z in
           subst (Meets 1 0 (x .rows) m fs (outOf t (m .binds) o)) (sym p) (not-meets (x .rows) m fs c q (P .0) t o (w .legible .table) room small z (P .2) f);
     }
 
@@ -251,10 +251,10 @@ module _ (s : Shared) (d c y n k : ℕ) (m : M) where
           let u = two-here (x .rows) fs (m .binds) (m .st .bindings) X vs c y n st ch l (j ∙ i) z in
           let Q = formed-piece (x .rows) fs (m .binds) (m .st .bindings) (u .last) last-value q (u .stands) (value-is (Formed q) e) in
           let P = formed-piece (x .rows) fs (m .binds) (m .st .bindings) (u .first) first-value p (u .before) (first-is v h (Formed p) f) in
-          let T : called E X vs k (m .st .work) ≡ out (form (constructed c (P .0 ∷ (Q .0 ∷ [])))) (m .st .work) =
-          ap (λ (Y : Val). called E Y vs k (m .st .work)) (is .0)
-          ∙ ap (λ (l : List Val). called E (conV c) l k (m .st .work)) (u .all ∙ ap (λ (Y : Val). Y ∷ (u .last ∷ [])) (P .1) ∙ ap (λ (Y : Val). form (P .0) ∷ (Y ∷ [])) (Q .1))
-          ∙ called-two E k (m .st .work) c (P .0) (Q .0) z in
+          let T : called E X vs k (m .st .remaining .0) ≡ out (form (constructed c (P .0 ∷ (Q .0 ∷ [])))) (m .st .remaining .0) =
+          ap (λ (Y : Val). called E Y vs k (m .st .remaining .0)) (is .0)
+          ∙ ap (λ (l : List Val). called E (conV c) l k (m .st .remaining .0)) (u .all ∙ ap (λ (Y : Val). Y ∷ (u .last ∷ [])) (P .1) ∙ ap (λ (Y : Val). form (P .0) ∷ (Y ∷ [])) (Q .1))
+          ∙ called-two E k (m .st .remaining .0) c (P .0) (Q .0) z in
           subst (Meets 1 0 (x .rows) m fs (outOf t (m .binds) o)) (sym T) (join-meets (x .rows) m fs c p q (P .0) (Q .0) t o (w .legible .table) room small z (is .1) (P .2) (Q .2) r);
     }
 
@@ -264,9 +264,9 @@ module _ (s : Shared) (d c y n k : ℕ) (m : M) where
       meets = λ x fs X vs w st ch l.
           let E = evaluate (x .phrases) d in
           let u = two-here (x .rows) fs (m .binds) (m .st .bindings) X vs c y n st ch l (j ∙ i) z in
-          let T : called E X vs k (m .st .work) ≡ stop wrong-kind k =
-          ap (λ (Y : Val). called E Y vs k (m .st .work)) (con-is (x .rows) fs (m .binds) (m .st .bindings) X c st .0) ∙ ap (λ (l : List Val). called E (conV c) l k (m .st .work)) (u .all)
-          ∙ first-other E k (m .st .work) c (u .first) (u .last) z (λ f. other-piece (x .rows) fs (m .binds) (m .st .bindings) (u .first) first-value k f (u .before) (first-is v h Other e)) in
+          let T : called E X vs k (m .st .remaining .0) ≡ stop wrong-kind k =
+          ap (λ (Y : Val). called E Y vs k (m .st .remaining .0)) (con-is (x .rows) fs (m .binds) (m .st .bindings) X c st .0) ∙ ap (λ (l : List Val). called E (conV c) l k (m .st .remaining .0)) (u .all)
+          ∙ first-other E k (m .st .remaining .0) c (u .first) (u .last) z (λ f. other-piece (x .rows) fs (m .binds) (m .st .bindings) (u .first) first-value k f (u .before) (first-is v h Other e)) in
           subst (Meets 1 0 (x .rows) m fs (refused wrong-kind k)) (sym T) (refl, refl);
     }
 
@@ -274,20 +274,20 @@ module _ (s : Shared) (d c y n k : ℕ) (m : M) where
     unfolding Meets
     con-last-other e = record { meets = λ x fs X vs w st ch l. go x fs X vs st ch l (decEq c 0) }
       where
-        go : (x : Text) (fs : List Form) (X : Val) (vs : List Val) → Stands (x .rows) fs (m .binds) (m .st .bindings) X (Constructor c) → Chain (x .rows) fs (m .binds) (m .st .bindings) (withAll (scope X) vs) y → length vs ≡ n → Dec (c ≡ 0) → Meets 1 0 (x .rows) m fs (refused wrong-kind k) (called (evaluate (x .phrases) d) X vs k (m .st .work))
+        go : (x : Text) (fs : List Form) (X : Val) (vs : List Val) → Stands (x .rows) fs (m .binds) (m .st .bindings) X (Constructor c) → Chain (x .rows) fs (m .binds) (m .st .bindings) (withAll (scope X) vs) y → length vs ≡ n → Dec (c ≡ 0) → Meets 1 0 (x .rows) m fs (refused wrong-kind k) (called (evaluate (x .phrases) d) X vs k (m .st .remaining .0))
         go x fs X vs st ch l (yes z) =
             let E = evaluate (x .phrases) d in
             let u = one-here (x .rows) fs (m .binds) (m .st .bindings) X vs c y n st ch l (j ∙ i) z in
-            let T : called E X vs k (m .st .work) ≡ stop wrong-kind k =
-            ap (λ (Y : Val). called E Y vs k (m .st .work)) (con-is (x .rows) fs (m .binds) (m .st .bindings) X c st .0) ∙ ap (λ (l : List Val). called E (conV c) l k (m .st .work)) (u .all)
-            ∙ one-other E k (m .st .work) c (u .last) z (λ f. other-piece (x .rows) fs (m .binds) (m .st .bindings) (u .last) last-value k f (u .stands) (value-is Other e)) in
+            let T : called E X vs k (m .st .remaining .0) ≡ stop wrong-kind k =
+            ap (λ (Y : Val). called E Y vs k (m .st .remaining .0)) (con-is (x .rows) fs (m .binds) (m .st .bindings) X c st .0) ∙ ap (λ (l : List Val). called E (conV c) l k (m .st .remaining .0)) (u .all)
+            ∙ one-other E k (m .st .remaining .0) c (u .last) z (λ f. other-piece (x .rows) fs (m .binds) (m .st .bindings) (u .last) last-value k f (u .stands) (value-is Other e)) in
             subst (Meets 1 0 (x .rows) m fs (refused wrong-kind k)) (sym T) (refl, refl)
         go x fs X vs st ch l (no z) =
             let E = evaluate (x .phrases) d in
             let u = two-here (x .rows) fs (m .binds) (m .st .bindings) X vs c y n st ch l (j ∙ i) z in
-            let T : called E X vs k (m .st .work) ≡ stop wrong-kind k =
-            ap (λ (Y : Val). called E Y vs k (m .st .work)) (con-is (x .rows) fs (m .binds) (m .st .bindings) X c st .0) ∙ ap (λ (l : List Val). called E (conV c) l k (m .st .work)) (u .all)
-            ∙ last-other E k (m .st .work) c (u .first) (u .last) z (λ f. other-piece (x .rows) fs (m .binds) (m .st .bindings) (u .last) last-value k f (u .stands) (value-is Other e)) in
+            let T : called E X vs k (m .st .remaining .0) ≡ stop wrong-kind k =
+            ap (λ (Y : Val). called E Y vs k (m .st .remaining .0)) (con-is (x .rows) fs (m .binds) (m .st .bindings) X c st .0) ∙ ap (λ (l : List Val). called E (conV c) l k (m .st .remaining .0)) (u .all)
+            ∙ last-other E k (m .st .remaining .0) c (u .first) (u .last) z (λ f. other-piece (x .rows) fs (m .binds) (m .st .bindings) (u .last) last-value k f (u .stands) (value-is Other e)) in
             subst (Meets 1 0 (x .rows) m fs (refused wrong-kind k)) (sym T) (refl, refl)
 
 -- what the reads ask

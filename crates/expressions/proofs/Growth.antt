@@ -80,7 +80,7 @@ grew-none a b m fs t = record {
 }
 
 -- a value given and nothing touched
-pub given : (a b : ℕ) (rows : List (List ℕ)) (m : M) (fs : List Form) (X : Val) (v : Value) (r : Out Val) → Table (used m) fs → Stands rows fs (m .binds) (m .st .bindings) X v → r ≡ out X (m .st .work) → Meets a b rows m fs (done v m) r
+pub given : (a b : ℕ) (rows : List (List ℕ)) (m : M) (fs : List Form) (X : Val) (v : Value) (r : Out Val) → Table (used m) fs → Stands rows fs (m .binds) (m .st .bindings) X v → r ≡ out X (m .st .remaining .0) → Meets a b rows m fs (done v m) r
 unfolding Meets
 given a b rows m fs X v r t s e = subst (Meets a b rows m fs (done v m)) (sym e)
     ([], grew-none a b m fs t, subst (λ (l : List Form). Stands rows l (m .binds) (m .st .bindings) X v) (sym (append-nil fs)) s, refl)
@@ -99,7 +99,7 @@ within a b a′ b′ rows m fs o r t y h i =
 -- a push
 
 abbrev pub push : M → Value → ℕ → M
-push m v y = mk (m .forms) (sets (m .binds) (4 * m .st .bindings) (numbersOf v y)) (counters (m .st .props) (m .st .bindings + 1) (m .st .work))
+push m v y = mk (m .forms) (sets (m .binds) (4 * m .st .bindings) (numbersOf v y)) (counters (m .st .props) (m .st .bindings + 1) (m .st .remaining .0))
 
 pub grew-push : (m : M) (fs : List Form) (v : Value) (y : ℕ) → Table (used m) fs → Grew 0 1 m (push m v y) fs []
 grew-push m fs v y t = record {
@@ -130,11 +130,11 @@ module _ (m : M) (fs : List Form) (v : Value) (y : ℕ) where
 
 -- a unit of work
 
-pub unspend : (rows : List (List ℕ)) (m : M) (fs : List Form) (o : MOut) (r : Out Val) → (m .st .work ≡ 0 → ⊥) → Meets 4 4 rows (spent m) fs o r → Meets 0 0 rows m fs o r
+pub unspend : (rows : List (List ℕ)) (m : M) (fs : List Form) (o : MOut) (r : Out Val) → (m .st .remaining .0 ≡ 0 → ⊥) → Meets 4 4 rows (spent m) fs o r → Meets 0 0 rows m fs o r
 unfolding Meets
 unspend rows m fs (done v m′) (out X w) h y = (
   y .0,
-  (let g = y .1 in let p = g .props in let q = g .bindings in let n = g .more in let z : 0 < m .st .work = omega arith in record {
+  (let g = y .1 in let p = g .props in let q = g .bindings in let n = g .more in let z : 0 < m .st .remaining .0 = omega arith in record {
     table = g .table;
     kept = g .kept;
     more = omega arith;

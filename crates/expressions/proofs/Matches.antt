@@ -68,7 +68,7 @@ module _ (s : Shared) (env k p : ℕ) (m : M) (n : ℕ) (i : n ≡ two (s .phras
   unfolding Meets onChoice Picked
   none-fits d C = record { meets = λ x fs e W h is low c. rw (← i) (go x fs e (clauses x (tree fs p)) (C .meets (offered x fs s m k n p W h is i low))) }
     where
-      go : (x : Text) (fs : List Form) (e : Env) (q : Chosen-clause) → Picked fs Unfit q → Meets 0 4 (x .rows) m fs (refused no-clause k) (onChoice q k (λ b ps. evaluate (x .phrases) d (withForms e ps) b (m .st .work)))
+      go : (x : Text) (fs : List Form) (e : Env) (q : Chosen-clause) → Picked fs Unfit q → Meets 0 4 (x .rows) m fs (refused no-clause k) (onChoice q k (λ b ps. evaluate (x .phrases) d (withForms e ps) b (m .st .remaining .0)))
       go x fs e (chosen b ps) z = absurd z
       go x fs e unfit z = (refl, refl)
 
@@ -100,7 +100,7 @@ module _ (s : Shared) (env k p : ℕ) (m : M) (n : ℕ) (i : n ≡ two (s .phras
 
     module _ (t : List ℕ) (y : ℕ) (B : (y ≡ outermost (m .st .bindings) env (numbers parts)) × (t ≡ chained (m .binds) (m .st .bindings) env (numbers parts))) where
       abbrev bound : M
-      bound = mk (m .forms) t (counters (m .st .props) (m .st .bindings + parts .count) (m .st .work))
+      bound = mk (m .forms) t (counters (m .st .props) (m .st .bindings + parts .count) (m .st .remaining .0))
 
       bound-long : length t ≡ length (m .binds)
       bound-long = ap length (B .1) ∙ chained-long (numbers parts) (m .binds) (m .st .bindings) env
@@ -159,13 +159,13 @@ module _ (s : Shared) (env k p : ℕ) (m : M) (n : ℕ) (i : n ≡ two (s .phras
       }
         where
           go : (x : Text) (fs : List Form) (e : Env) → World x fs s m → Chain (x .rows) fs (m .binds) (m .st .bindings) e env → (q : Chosen-clause) → Picked fs (Chosen body parts) q → OnBody (Row x) q
-              → Meets 0 4 (x .rows) m fs o (onChoice q k (λ b ps. evaluate (x .phrases) d (withForms e ps) b (m .st .work)))
+              → Meets 0 4 (x .rows) m fs o (onChoice q k (λ b ps. evaluate (x .phrases) d (withForms e ps) b (m .st .remaining .0)))
           go x fs e W c (chosen b ps) z h =
               let D = binds-of fs ps parts (z .1 .0) (z .1 .1) (z .1 .2) (z .1 .3) in
               let T = W .legible .table in
               rw (← z .0)
-              (after 0 4 0 0 0 4 (x .rows) m bound fs [] o (evaluate (x .phrases) d (withForms e ps) body (m .st .work)) (bound-grew fs T (D .few))
-              (subst (λ (l : List Form). Meets 0 0 (x .rows) bound l o (evaluate (x .phrases) d (withForms e ps) body (m .st .work))) (sym (append-nil fs))
+              (after 0 4 0 0 0 4 (x .rows) m bound fs [] o (evaluate (x .phrases) d (withForms e ps) body (m .st .remaining .0)) (bound-grew fs T (D .few))
+              (subst (λ (l : List Form). Meets 0 0 (x .rows) bound l o (evaluate (x .phrases) d (withForms e ps) body (m .st .remaining .0))) (sym (append-nil fs))
               (E .meets x fs (withForms e ps) (bound-world x fs W) (rw (z .0) h) (bound-chain x fs ps e room c D))) (omega arith) (omega arith))
           go x fs e W c unfit z h = absurd z
 
@@ -202,16 +202,16 @@ module _ (s : Shared) (d env k : ℕ) (m : M) (is : kind (s .phrases) k ≡ 9) (
 
   pub subject-refused : (n y : ℕ) → Evaluated s d env a m (refused n y) → Stepped s d env k m (refused n y)
   subject-refused n y A = record {
-    meets = λ x fs e w h c. subst (Meets 4 4 (x .rows) m fs (refused n y)) (sym (match-step x fs w h e (m .st .work)))
-        (passed 0 0 4 4 (x .rows) m m fs fs n y (evaluate (x .phrases) d e a (m .st .work)) (then x e) (A .meets x fs e w (row-a x fs w h) c));
+    meets = λ x fs e w h c. subst (Meets 4 4 (x .rows) m fs (refused n y)) (sym (match-step x fs w h e (m .st .remaining .0)))
+        (passed 0 0 4 4 (x .rows) m m fs fs n y (evaluate (x .phrases) d e a (m .st .remaining .0)) (then x e) (A .meets x fs e w (row-a x fs w h) c));
   }
 
   -- a value of another kind
   pub subject-other : (v : Value) (m₁ : M) → partOf v ≡ Other → Evaluated s d env a m (done v m₁) → Stepped s d env k m (refused wrong-kind k)
   unfolding Meets next
   subject-other v m₁ q A = record {
-    meets = λ x fs e w h c. subst (Meets 4 4 (x .rows) m fs (refused wrong-kind k)) (sym (match-step x fs w h e (m .st .work)))
-        (go x fs e (evaluate (x .phrases) d e a (m .st .work)) (A .meets x fs e w (row-a x fs w h) c));
+    meets = λ x fs e w h c. subst (Meets 4 4 (x .rows) m fs (refused wrong-kind k)) (sym (match-step x fs w h e (m .st .remaining .0)))
+        (go x fs e (evaluate (x .phrases) d e a (m .st .remaining .0)) (A .meets x fs e w (row-a x fs w h) c));
   }
     where
       go : (x : Text) (fs : List Form) (e : Env) (r : Out Val) → Meets 0 0 (x .rows) m fs (done v m₁) r → Meets 4 4 (x .rows) m fs (refused wrong-kind k) (next r (then x e))
@@ -222,8 +222,8 @@ module _ (s : Shared) (d env k : ℕ) (m : M) (is : kind (s .phrases) k ≡ 9) (
   pub match-is : (v : Value) (p : ℕ) (m₁ : M) (o : MOut) → v ≡ Prop p → Evaluated s d env a m (done v m₁) → Selected s d env k p m₁ o → Stepped s d env k m o
   unfolding Meets next asForm
   match-is v p m₁ o q A S = record {
-    meets = λ x fs e w h c. subst (Meets 4 4 (x .rows) m fs o) (sym (match-step x fs w h e (m .st .work)))
-        (go x fs e w h c (evaluate (x .phrases) d e a (m .st .work)) (A .meets x fs e w (row-a x fs w h) c));
+    meets = λ x fs e w h c. subst (Meets 4 4 (x .rows) m fs o) (sym (match-step x fs w h e (m .st .remaining .0)))
+        (go x fs e w h c (evaluate (x .phrases) d e a (m .st .remaining .0)) (A .meets x fs e w (row-a x fs w h) c));
   }
     where
       go : (x : Text) (fs : List Form) (e : Env) → World x fs s m → Row x k → Chain (x .rows) fs (m .binds) (m .st .bindings) e env → (r : Out Val) → Meets 0 0 (x .rows) m fs (done v m₁) r → Meets 4 4 (x .rows) m fs o (next r (then x e))
@@ -233,5 +233,5 @@ module _ (s : Shared) (d env k : ℕ) (m : M) (is : kind (s .phrases) k ≡ 9) (
           let w₁ = world-grew 0 0 m m₁ fs gs g x s w in
           let c₁ = chain-grew 0 0 m m₁ fs gs g (x .rows) e env c in
           rw (P .1, ← z .3, ← P .2 .tree)
-          (after 0 0 0 4 4 4 (x .rows) m m₁ fs gs o (then x e (form (tree (fs ++ gs) p)) (m₁ .st .work)) g (S .meets x (fs ++ gs) e w₁ h is (P .2 .low) c₁) (omega arith) (omega arith))
+          (after 0 0 0 4 4 4 (x .rows) m m₁ fs gs o (then x e (form (tree (fs ++ gs) p)) (m₁ .st .remaining .0)) g (S .meets x (fs ++ gs) e w₁ h is (P .2 .low) c₁) (omega arith) (omega arith))
       go x fs e w h c (stop n y) z = absurd z

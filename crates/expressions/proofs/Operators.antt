@@ -39,7 +39,7 @@ unfolding Meets
 not-called s d v y n k m h g = record {
   meets = λ x fs X vs w st c l.
       let t = same-kind (x .rows) fs (m .binds) (m .st .bindings) X v st in
-      rw (wrong (evaluate (x .phrases) d) X vs k (m .st .work) (λ z. h (sym t ∙ z)) (λ z. g (sym t ∙ z))) (refl, refl);
+      rw (wrong (evaluate (x .phrases) d) X vs k (m .st .remaining .0) (λ z. h (sym t ∙ z)) (λ z. g (sym t ∙ z))) (refl, refl);
 }
 
 pub prop-called : (s : Shared) (d : ℕ) (v : Value) (y n k p : ℕ) (m : M) → v ≡ Prop p → Called s d v y n k m (refused wrong-kind k)
@@ -103,8 +103,8 @@ function-called s d v y n k a b f m o e i j l A = record {
       let r = runs (x .rows) fs (m .binds) (m .st .bindings) X v f e st in
       let p : cell (x .rows) (f .phrase) 1 ≡ n = sym (cell-at x fs s m w (f .phrase) (r .low) 1 (omega arith)) ∙ sym i ∙ j in
       let z : b ≡ cell (x .rows) (f .phrase) 2 = l ∙ cell-at x fs s m w (f .phrase) (r .low) 2 (omega arith) in
-      rw (r .runs (evaluate (x .phrases) d) vs k (m .st .work), eq-eqb (length vs) (cell (x .rows) (f .phrase) 1) (q ∙ sym p), ← z)
-      (within 0 0 1 0 (x .rows) m fs o (evaluate (x .phrases) d (withAll (scope X) vs) b (m .st .work)) (w .legible .table)
+      rw (r .runs (evaluate (x .phrases) d) vs k (m .st .remaining .0), eq-eqb (length vs) (cell (x .rows) (f .phrase) 1) (q ∙ sym p), ← z)
+      (within 0 0 1 0 (x .rows) m fs o (evaluate (x .phrases) d (withAll (scope X) vs) b (m .st .remaining .0)) (w .legible .table)
       (A .meets x fs (withAll (scope X) vs) w (body-row x fs s m w (f .phrase) b (r .low) (r .kind) z) c) (omega arith) (omega arith));
 }
 
@@ -114,5 +114,5 @@ function-miscounted s d v y n k a f m e i j = record {
   meets = λ x fs X vs w st c q.
       let r = runs (x .rows) fs (m .binds) (m .st .bindings) X v f e st in
       let p : a ≡ cell (x .rows) (f .phrase) 1 = i ∙ cell-at x fs s m w (f .phrase) (r .low) 1 (omega arith) in
-      rw (r .runs (evaluate (x .phrases) d) vs k (m .st .work), ne-eqb (length vs) (cell (x .rows) (f .phrase) 1) (λ z. j (p ∙ sym z ∙ q))) (refl, refl);
+      rw (r .runs (evaluate (x .phrases) d) vs k (m .st .remaining .0), ne-eqb (length vs) (cell (x .rows) (f .phrase) 1) (λ z. j (p ∙ sym z ∙ q))) (refl, refl);
 }

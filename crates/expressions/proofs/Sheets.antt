@@ -33,10 +33,10 @@ held width rows d t h e l =
     laid width rows h d t e (omega arith)
 
 -- what reading leaves, and so much of the budget
-module _ (s : List ℕ) (c : Counts) (ns₀ fs₀ ps₀ hs₀ bs₀ ns fs ps hs bs binds : List ℕ) (work : ℕ) (L : Laid s (Read c) ns₀ fs₀ ps₀ hs₀ bs₀ ns fs ps hs bs)
+module _ (s : List ℕ) (c : Counts) (ns₀ fs₀ ps₀ hs₀ bs₀ ns fs ps hs bs binds : List ℕ) (remaining : ℕ) (L : Laid s (Read c) ns₀ fs₀ ps₀ hs₀ bs₀ ns fs ps hs bs)
     (hs-kept : length hs ≡ length hs₀) (ps-kept : length ps ≡ length ps₀) (hs-short : length hs ≤ 16384) (ps-short : length ps ≤ 16384) where
-  pub ready-sheet : 514 + 4 * work ≤ length fs → length fs ≤ 16384 → 16 * work ≤ length binds → length binds ≤ 16384 →
-      (k : ℕ) → k < c .phrases → kind hs k < 16 → Ready (shared hs ps) (mk fs binds (counters (c .words) 0 work)) 0 k 0 0
+  pub ready-sheet : 514 + 4 * remaining ≤ length fs → length fs ≤ 16384 → 16 * remaining ≤ length binds → length binds ≤ 16384 →
+      (k : ℕ) → k < c .phrases → kind hs k < 16 → Ready (shared hs ps) (mk fs binds (counters (c .words) 0 remaining)) 0 k 0 0
   ready-sheet f f′ b b′ k l low =
       let O = opened s c (sym (L .answered)) in
       let R = O .stands in
@@ -49,6 +49,6 @@ module _ (s : List ℕ) (c : Counts) (ns₀ fs₀ ps₀ hs₀ bs₀ ns fs ps hs 
       let many = O .phrases-many in
       let first = phrases .cells k 0 (omega arith) (omega arith) in
       let start : 12 * k + 0 ≡ 12 * k = omega arith in
-      ready-read (O .sheet-is) T R (shared hs ps) (mk fs binds (counters (c .words) 0 work)) used phrases patterns hs-short ps-short k
+      ready-read (O .sheet-is) T R (shared hs ps) (mk fs binds (counters (c .words) 0 remaining)) used phrases patterns hs-short ps-short k
       (omega arith, rw (← first, start) low)
       (record { forms = omega arith; binds = omega arith; small = f′; short = b′ })

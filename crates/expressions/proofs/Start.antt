@@ -27,7 +27,7 @@ module _ (S : Sheet) (T : Tables) (R : Reads S T) (s : Shared) (m : M) (words : 
     short = short;
   }
 
-  -- with nothing bound and room for the work, any expression may be evaluated
+  -- with nothing bound and room for the budget, any expression may be evaluated
   pub ready-read : (k : ℕ) → Row (text S T) k → Room m 0 0 → Ready s m 0 k 0 0
   unfolding Stands
   ready-read k h room = record { text = text S T; formed = R .trees; bound = empty; world = world-read; row = h; chain = refl; room = room }

@@ -32,14 +32,14 @@ use Rattle.expressions.proofs.Growth.{used, world-grew, chain-grew, roo
 -- entering
 
 module _ (s : Shared) (env k : ℕ) (m : M) where
-  pub spent-out : (d : ℕ) → m .st .work ≡ 0 → Evaluated s d env k m (refused budget-spent k)
+  pub spent-out : (d : ℕ) → m .st .remaining .0 ≡ 0 → Evaluated s d env k m (refused budget-spent k)
   unfolding evaluate entering Meets
   spent-out zero h = record { meets = λ x fs e w r c. rw h (refl, refl) }
   spent-out (suc d) h = record { meets = λ x fs e w r c. rw h (refl, refl) }
 
-  pub too-deep : (d : ℕ) → (m .st .work ≡ 0 → ⊥) → d ≡ 0 → Evaluated s d env k m (refused too-deep-number k)
+  pub too-deep : (d : ℕ) → (m .st .remaining .0 ≡ 0 → ⊥) → d ≡ 0 → Evaluated s d env k m (refused too-deep-number k)
   unfolding evaluate entering Meets
-  too-deep d h z = rw z (record { meets = λ x fs e w r c. go x e fs (m .st .work) h })
+  too-deep d h z = rw z (record { meets = λ x fs e w r c. go x e fs (m .st .remaining .0) h })
     where
       go : (x : Text) (e : Env) (fs : List Form) (n : ℕ) → (n ≡ 0 → ⊥) → Meets 0 0 (x .rows) m fs (refused too-deep-number k) (evaluate (x .phrases) 0 e k n)
       go x e fs zero h = absurd (h refl)
@@ -51,10 +51,10 @@ module _ (s : Shared) (env k : ℕ) (m : M) where
   enter ps (suc d) e zero h z = absurd (h refl)
   enter ps (suc d) e (suc n) h z = rw (sub-one, sub-one)
 
-  pub entered : (d : ℕ) (o : MOut) → (m .st .work ≡ 0 → ⊥) → (d ≡ 0 → ⊥) → Stepped s (d - 1) env k (spent m) o → Evaluated s d env k m o
+  pub entered : (d : ℕ) (o : MOut) → (m .st .remaining .0 ≡ 0 → ⊥) → (d ≡ 0 → ⊥) → Stepped s (d - 1) env k (spent m) o → Evaluated s d env k m o
   entered d o h z S = record {
-    meets = λ x fs e w r c. rw (enter (x .phrases) d e (m .st .work) h z)
-        (unspend (x .rows) m fs o (evaluateStep (x .phrases) (evaluate (x .phrases) (d - 1)) e k (m .st .work - 1)) h
+    meets = λ x fs e w r c. rw (enter (x .phrases) d e (m .st .remaining .0) h z)
+        (unspend (x .rows) m fs o (evaluateStep (x .phrases) (evaluate (x .phrases) (d - 1)) e k (m .st .remaining .0 - 1)) h
         (S .meets x fs e (record { legible = w .legible; says = w .says; holds = w .holds; short = w .short }) r c));
   }
 
@@ -71,7 +71,7 @@ module _ (s : Shared) (d env k : ℕ) (m : M) where
   proposition c a g i z = record {
     meets = λ x fs e w r ch. given 4 4 (x .rows) m fs (form (tree fs (one (s .phrases) k))) (Prop a) _ (w .legible .table)
         (one (s .phrases) k, ap Prop i, record { low = prop-low x fs s m w k r (sym g ∙ z); tree = refl })
-        (step-is (x .phrases) (evaluate (x .phrases) d) e k (m .st .work) _ (says-prop x fs s m w k (r .0) (sym g ∙ z)));
+        (step-is (x .phrases) (evaluate (x .phrases) d) e k (m .st .remaining .0) _ (says-prop x fs s m w k (r .0) (sym g ∙ z)));
   }
 
   pub constructor : (c a : ℕ) → c ≡ kind (s .phrases) k → a ≡ one (s .phrases) k → c ≡ 2 → Stepped s d env k m (done (Constructor a) m)
@@ -79,7 +79,7 @@ module _ (s : Shared) (d env k : ℕ) (m : M) where
   constructor c a g i z = record {
     meets = λ x fs e w r ch. given 4 4 (x .rows) m fs (conV (one (s .phrases) k)) (Constructor a) _ (w .legible .table)
         (ap Constructor i, con-low x fs s m w k r (sym g ∙ z))
-        (step-is (x .phrases) (evaluate (x .phrases) d) e k (m .st .work) _ (says-con x fs s m w k (r .0) (sym g ∙ z)));
+        (step-is (x .phrases) (evaluate (x .phrases) d) e k (m .st .remaining .0) _ (says-con x fs s m w k (r .0) (sym g ∙ z)));
   }
 
   pub ruled : (c a : ℕ) → c ≡ kind (s .phrases) k → a ≡ one (s .phrases) k → c ≡ 3 → Stepped s d env k m (done (Rule a) m)
@@ -87,10 +87,10 @@ module _ (s : Shared) (d env k : ℕ) (m : M) where
   ruled c a g i z = record {
     meets = λ x fs e w r ch. given 4 4 (x .rows) m fs (ruleV (one (s .phrases) k)) (Rule a) _ (w .legible .table)
         (ap Rule i, rule-low x fs s m w k r (sym g ∙ z))
-        (step-is (x .phrases) (evaluate (x .phrases) d) e k (m .st .work) _ (says-rule x fs s m w k (r .0) (sym g ∙ z)));
+        (step-is (x .phrases) (evaluate (x .phrases) d) e k (m .st .remaining .0) _ (says-rule x fs s m w k (r .0) (sym g ∙ z)));
   }
 
-  variable-by : (rows : List (List ℕ)) (fs : List Form) (w : ℕ) → m .st .work ≡ w → Table (used m) fs → (r : Found) (q : Out Val) → Looks rows fs (m .binds) (m .st .bindings) r q k w → Meets 4 4 rows m fs (outOf (m .forms) (m .binds) (variableOf k (m .st) r)) q
+  variable-by : (rows : List (List ℕ)) (fs : List Form) (w : ℕ) → m .st .remaining .0 ≡ w → Table (used m) fs → (r : Found) (q : Out Val) → Looks rows fs (m .binds) (m .st .bindings) r q k w → Meets 4 4 rows m fs (outOf (m .forms) (m .binds) (variableOf k (m .st) r)) q
   unfolding Looks variableOf Meets
   variable-by rows fs w g t (Bound v) (out X w′) z = given 4 4 rows m fs X v (out X w′) t (z .0) (ap (out X) (z .1 ∙ sym g))
   variable-by rows fs w g t (Bound v) (stop n y) z = z
@@ -102,8 +102,8 @@ module _ (s : Shared) (d env k : ℕ) (m : M) where
   variable-is c a o g i z j = record {
     meets = λ x fs e w r ch.
         let v : ℕ = one (s .phrases) k in
-        rw (j, i, step-is (x .phrases) (evaluate (x .phrases) d) e k (m .st .work) _ (says-var x fs s m w k (r .0) (sym g ∙ z)))
-        (variable-by (x .rows) fs (m .st .work) refl (w .legible .table) (found (m .binds) env v) (lookup e v k (m .st .work)) (looked (x .rows) fs (m .binds) (m .st .bindings) v e env k (m .st .work) ch));
+        rw (j, i, step-is (x .phrases) (evaluate (x .phrases) d) e k (m .st .remaining .0) _ (says-var x fs s m w k (r .0) (sym g ∙ z)))
+        (variable-by (x .rows) fs (m .st .remaining .0) refl (w .legible .table) (found (m .binds) env v) (lookup e v k (m .st .remaining .0)) (looked (x .rows) fs (m .binds) (m .st .bindings) v e env k (m .st .remaining .0) ch));
   }
 
   sort-back : (S : Sort) (c : ℕ) → c ≡ kindOfSort S → sortOf c ≡ S
@@ -139,11 +139,11 @@ module _ (s : Shared) (d env k : ℕ) (m : M) where
         let t : v ≡ closed S (closureOf k env) = j ∙ rw (sort-back S c q) in
         rw t (given 4 4 (x .rows) m fs (closure S false (cell (x .rows) k 1) (cell (x .rows) k 2) e) (closed S (closureOf k env)) _ (w .legible .table)
         (closure-stands x fs e S (r .0) (sym (kind-at x fs s m w k (r .0)) ∙ sym g ∙ q) ch)
-        (step-is (x .phrases) (evaluate (x .phrases) d) e k (m .st .work) _ (says-closure x fs s m w k (r .0) S (sym g ∙ q))));
+        (step-is (x .phrases) (evaluate (x .phrases) d) e k (m .st .remaining .0) _ (says-closure x fs s m w k (r .0) S (sym g ∙ q))));
   }
 
   pub fix-is : (c a : ℕ) (o : Outcome) (b : List ℕ) → c ≡ kind (s .phrases) k → a ≡ one (s .phrases) k → c ≡ 8 → 4 * m .st .bindings + 4 ≤ length (m .binds)
-      → o ≡ Done (selfed (s .phrases) a (m .st .bindings)) (counters (m .st .props) (m .st .bindings + 1) (m .st .work))
+      → o ≡ Done (selfed (s .phrases) a (m .st .bindings)) (counters (m .st .props) (m .st .bindings + 1) (m .st .remaining .0))
       → b ≡ sets (m .binds) (4 * m .st .bindings) (numbersOf (selfed (s .phrases) a (m .st .bindings)) env) → Stepped s d env k m (outOf (m .forms) b o)
   unfolding evaluated
   fix-is c a o b g i z room j l = record {
@@ -155,10 +155,10 @@ module _ (s : Shared) (d env k : ℕ) (m : M) where
         let v = selfed (s .phrases) q (m .st .bindings) in
         let wr : Written (x .rows) q S (cell (x .rows) q 1) (cell (x .rows) q 2) = record { low = f .0; kind = f .1 .1 ∙ ap kindOfSort (sym (sort-back (f .1 .0) (cell (x .rows) q 0) (f .1 .1))); parameters = refl; body = refl } in
         rw (j, l, i, same)
-        (after-push m fs (closed S (closureOf q (m .st .bindings + 1))) env 4 3 (x .rows) (done (closed S (closureOf q (m .st .bindings + 1))) (push m (closed S (closureOf q (m .st .bindings + 1))) env)) (evaluateStep (x .phrases) (evaluate (x .phrases) d) e k (m .st .work)) (w .legible .table)
-        (given 4 3 (x .rows) (push m (closed S (closureOf q (m .st .bindings + 1))) env) fs (closure S true (cell (x .rows) q 1) (cell (x .rows) q 2) e) (closed S (closureOf q (m .st .bindings + 1))) (evaluateStep (x .phrases) (evaluate (x .phrases) d) e k (m .st .work)) (w .legible .table)
+        (after-push m fs (closed S (closureOf q (m .st .bindings + 1))) env 4 3 (x .rows) (done (closed S (closureOf q (m .st .bindings + 1))) (push m (closed S (closureOf q (m .st .bindings + 1))) env)) (evaluateStep (x .phrases) (evaluate (x .phrases) d) e k (m .st .remaining .0)) (w .legible .table)
+        (given 4 3 (x .rows) (push m (closed S (closureOf q (m .st .bindings + 1))) env) fs (closure S true (cell (x .rows) q 1) (cell (x .rows) q 2) e) (closed S (closureOf q (m .st .bindings + 1))) (evaluateStep (x .phrases) (evaluate (x .phrases) d) e k (m .st .remaining .0)) (w .legible .table)
         (fixed (x .rows) fs (m .binds) (m .st .bindings) env room e S q (cell (x .rows) q 1) (cell (x .rows) q 2) ch wr)
-        (step-is (x .phrases) (evaluate (x .phrases) d) e k (m .st .work) _ (says-fix x fs s m w k (r .0) (sym g ∙ z)))));
+        (step-is (x .phrases) (evaluate (x .phrases) d) e k (m .st .remaining .0) _ (says-fix x fs s m w k (r .0) (sym g ∙ z)))));
   }
 
 -- what a value that was got leaves
@@ -170,7 +170,7 @@ pub record Got (s : Shared) (m : M) (v : Value) (env k a b : ℕ) : Type 0 where
 
 pub got : (s : Shared) (d env k j a b : ℕ) (m m₁ : M) (v : Value) (r : Ready s m env k a b) → Row (r .text) j → Evaluated s d env j m (done v m₁) → Got s m₁ v env k a b
 unfolding Meets
-got s d env k j a b m m₁ v r h A = go (evaluate (r .text .phrases) d (r .bound) j (m .st .work)) (A .meets (r .text) (r .formed) (r .bound) (r .world) h (r .chain))
+got s d env k j a b m m₁ v r h A = go (evaluate (r .text .phrases) d (r .bound) j (m .st .remaining .0)) (A .meets (r .text) (r .formed) (r .bound) (r .world) h (r .chain))
   where
     go : (q : Out Val) → Meets 0 0 (r .text .rows) m (r .formed) (done v m₁) q → Got s m₁ v env k a b
     go (out X w) z = record {
@@ -202,9 +202,9 @@ ready-at s m env k j a b a′ b′ r q h i =
       room = record { forms = omega arith; binds = omega arith; small = r .room .small; short = r .room .short };
     }
 
-pub ready-spent : (s : Shared) (m : M) (env k : ℕ) → (m .st .work ≡ 0 → ⊥) → Ready s m env k 0 0 → Ready s (spent m) env k 4 4
+pub ready-spent : (s : Shared) (m : M) (env k : ℕ) → (m .st .remaining .0 ≡ 0 → ⊥) → Ready s m env k 0 0 → Ready s (spent m) env k 4 4
 ready-spent s m env k h r =
-    let rf = r .room .forms in let rb = r .room .binds in let z : 0 < m .st .work = omega arith in
+    let rf = r .room .forms in let rb = r .room .binds in let z : 0 < m .st .remaining .0 = omega arith in
     record {
       text = r .text;
       formed = r .formed;
@@ -281,8 +281,8 @@ module _ (s : Shared) (d env k : ℕ) (m : M) (is : kind (s .phrases) k ≡ 7) (
 
   pub let-refused : (n y : ℕ) → Evaluated s d env a m (refused n y) → Stepped s d env k m (refused n y)
   let-refused n y A = record {
-    meets = λ x fs e w h c. subst (Meets 4 4 (x .rows) m fs (refused n y)) (sym (let-step x fs w h e (m .st .work) (two (s .phrases) k) refl))
-        (passed 0 0 4 4 (x .rows) m m fs fs n y (evaluate (x .phrases) d e a (m .st .work)) (λ v. evaluate (x .phrases) d (e ▸ v) (two (s .phrases) k))
+    meets = λ x fs e w h c. subst (Meets 4 4 (x .rows) m fs (refused n y)) (sym (let-step x fs w h e (m .st .remaining .0) (two (s .phrases) k) refl))
+        (passed 0 0 4 4 (x .rows) m m fs fs n y (evaluate (x .phrases) d e a (m .st .remaining .0)) (λ v. evaluate (x .phrases) d (e ▸ v) (two (s .phrases) k))
         (A .meets x fs e w (rw i (first-row x fs s m w k h is)) c));
   }
 
@@ -297,15 +297,15 @@ module _ (s : Shared) (d env k : ℕ) (m : M) (is : kind (s .phrases) k ≡ 7) (
       let c₁ = chain-grew 0 0 m m₁ fs gs g (x .rows) e env c in
       let y = B .meets x (fs ++ gs) (e ▸ X) (world-push m₁ (fs ++ gs) v env x s w₁) h (pushed (x .rows) (fs ++ gs) (m₁ .binds) (m₁ .st .bindings) env room e X v c₁ (z .2)) in
       subst (λ (n : ℕ). Meets 4 4 (x .rows) m fs o (evaluate (x .phrases) d (e ▸ X) b n)) (z .3)
-      (after 0 0 0 1 4 4 (x .rows) m m₁ fs gs o (evaluate (x .phrases) d (e ▸ X) b (m₁ .st .work)) g
-      (after-push m₁ (fs ++ gs) v env 0 0 (x .rows) o (evaluate (x .phrases) d (e ▸ X) b (m₁ .st .work)) (w₁ .legible .table) y) (omega arith) (omega arith))
+      (after 0 0 0 1 4 4 (x .rows) m m₁ fs gs o (evaluate (x .phrases) d (e ▸ X) b (m₁ .st .remaining .0)) g
+      (after-push m₁ (fs ++ gs) v env 0 0 (x .rows) o (evaluate (x .phrases) d (e ▸ X) b (m₁ .st .remaining .0)) (w₁ .legible .table) y) (omega arith) (omega arith))
   then x fs e v m₁ b o w h c room B (stop n y) z = absurd z
 
   pub let-is : (b : ℕ) (v : Value) (m₁ : M) (o : MOut) → b ≡ two (s .phrases) k → Ready s m env k 4 4 → Evaluated s d env a m (done v m₁) → Evaluated s d (m₁ .st .bindings + 1) b (push m₁ v env) o → Stepped s d env k m o
   let-is b v m₁ o j r A B =
       let f = push-fits s m₁ v env k 4 3 (got s d env k a 4 4 m m₁ v r (let-first s m env k a 4 4 is i r) A) in
       record {
-        meets = λ x fs e w h c. subst (Meets 4 4 (x .rows) m fs o) (sym (let-step x fs w h e (m .st .work) b j))
-            (then x fs e v m₁ b o w (rw j (second-row x fs s m w k h is)) c (f .0) B (evaluate (x .phrases) d e a (m .st .work))
+        meets = λ x fs e w h c. subst (Meets 4 4 (x .rows) m fs o) (sym (let-step x fs w h e (m .st .remaining .0) b j))
+            (then x fs e v m₁ b o w (rw j (second-row x fs s m w k h is)) c (f .0) B (evaluate (x .phrases) d e a (m .st .remaining .0))
             (A .meets x fs e w (rw i (first-row x fs s m w k h is)) c));
       }

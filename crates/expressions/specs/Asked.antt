@@ -1,4 +1,4 @@
--- What the functions ask: that phrases and patterns are read, that numbers stand for propositions and bindings, and that there is room for what the work left can use.
+-- What the functions ask: that phrases and patterns are read, that numbers stand for propositions and bindings, and that there is room for what is left of the budget.
 use mathlib.Core.Path.{_≡_}
 use mathlib.Core.List.{List}
 use Prim.Native.Nat.{ℕ, _+_, _*_, _≤_, _<_}
@@ -34,10 +34,10 @@ pub record World (x : Text) (fs : List Form) (s : Shared) (m : M) : Type 0 where
   pub holds : Holds 12 (x .rows) (s .phrases)
   pub short : length (s .phrases) ≤ 16384
 
--- room for a more propositions and b more bindings, besides four of each for a unit of the work left
+-- room for a more propositions and b more bindings, besides four of each for each evaluation that may still begin
 pub record Room (m : M) (a b : ℕ) : Type 0 where
-  pub forms : m .st .props + 4 * m .st .work + a ≤ length (m .forms)
-  pub binds : 4 * (m .st .bindings + 4 * m .st .work + b) ≤ length (m .binds)
+  pub forms : m .st .props + 4 * m .st .remaining .0 + a ≤ length (m .forms)
+  pub binds : 4 * (m .st .bindings + 4 * m .st .remaining .0 + b) ≤ length (m .binds)
   pub small : length (m .forms) ≤ 16384
   pub short : length (m .binds) ≤ 16384
 

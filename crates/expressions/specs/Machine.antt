@@ -41,11 +41,11 @@ abbrev pub mk : List ℕ → List ℕ → State → M
 mk f b st = record { forms = f; binds = b; st = st }
 
 abbrev pub counters : ℕ → ℕ → ℕ → State
-counters p b w = record { props = p; bindings = b; work = w }
+counters p b r = record { props = p; bindings = b; remaining = record { 0 = r } }
 
 -- one unit of the budget spent
 abbrev pub spent : M → M
-spent m = mk (m .forms) (m .binds) (counters (m .st .props) (m .st .bindings) (m .st .work - 1))
+spent m = mk (m .forms) (m .binds) (counters (m .st .props) (m .st .bindings) (m .st .remaining .0 - 1))
 
 -- a value with what it leaves, or a refusal
 pub data MOut : Type 0 where
@@ -109,5 +109,5 @@ outermost n env (p ∷ ps) = outermost (n + 1) (n + 1) ps
 -- the proposition that constructor c makes of p and q, formed in the table
 pub record Made (c p q : ℕ) (st : State) (t₀ t : List ℕ) (x : Outcome) : Type 0 where
   pub formed : Formed
-  pub outcome : x ≡ Done (Prop (formed .at)) (counters (formed .size) (st .bindings) (st .work))
+  pub outcome : x ≡ Done (Prop (formed .at)) (counters (formed .size) (st .bindings) (st .remaining .0))
   pub interned : Interned (word (3 + c) p q) (st .props) t₀ t formed

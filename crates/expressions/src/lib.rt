@@ -1,5 +1,5 @@
 // Expressions evaluated over lent buffers: the table of formed propositions and the bindings change, phrases and patterns are only read.
-// On entry the budget is checked first, then the nesting. What an expression gives, with the work left, is what the language's `evaluate` gives,
+// On entry the budget is checked first, then the nesting. What an expression gives, with what is left of the budget, is what the language's `evaluate` gives,
 // refusals with number and place included. The table and the bindings only grow, by at most four for each evaluation begun, so that nothing is
 // refused for want of room (specs/Meets.antt).
 ghost use mathlib.Core.Path.{_≡_};
@@ -21,17 +21,21 @@ use bindings::Binding;
 use bindings::Closure;
 use bindings::Found;
 use bindings::Value;
+use language::Remaining;
 use language::refusal;
 use patterns::Choice;
 use patterns::Parts;
+use records::phrase_kind;
+use records::rows;
 
-pub mod kind;
+// The constructor not, the one that takes one argument.
+const NOT: usize = 0;
 
-// How many propositions are formed, how many bindings are made, and the work left.
+// How many propositions are formed, how many bindings are made, and what is left of the budget.
 pub struct State {
     pub props: usize,
     pub bindings: usize,
-    pub work: usize,
+    pub remaining: Remaining,
 }
 
 // A value and what is left, or a refusal's number and place.
@@ -66,25 +70,27 @@ pub fn evaluate(
     requires { ⌜ Ready (shared (now phrases) (now patterns)) (mk (now forms) (now binds) st) env k 0 0 ⌝ }
     ensures { λ x. ⌜ Evaluated (shared (now (phrases .entry)) (now (patterns .entry))) depth env k (mk (now (forms .entry)) (now (binds .entry)) st) (outOf (now (forms .exit)) (now (binds .exit)) x) ⌝ }
 {
-    if st.work == 0 {
+    let remaining = st.remaining;
+    if remaining.0 == 0 {
         return Outcome::Refused(refusal::BUDGET_SPENT, k);
     }
     if depth == 0 {
         return Outcome::Refused(refusal::TOO_DEEP, k);
     }
+    let after = Remaining(remaining.0 - 1);
     let begun = State {
         props: st.props,
         bindings: st.bindings,
-        work: st.work - 1,
+        remaining: after,
     };
-    let kind = words::at(phrases, 12 * k);
-    if kind == kind::CALL {
+    let kind = words::at(phrases, rows::PHRASE * k);
+    if kind == phrase_kind::CALL {
         return call(forms, binds, phrases, patterns, begun, env, k, depth - 1);
     }
-    if kind == kind::LET {
+    if kind == phrase_kind::LET {
         return bind(forms, binds, phrases, patterns, begun, env, k, depth - 1);
     }
-    if kind == kind::MATCH {
+    if kind == phrase_kind::MATCH {
         return matched(forms, binds, phrases, patterns, begun, env, k, depth - 1);
     }
     plain(binds, phrases, begun, env, k)
@@ -93,7 +99,7 @@ pub fn evaluate(
 // The value v bound on the chain env. The state then has one binding more, at which the chain starts.
 pub fn bind_value(binds: &mut [u32], st: State, v: Value, env: usize) -> State
     requires { ⌜ (4 * st .bindings + 4 ≤ length (now binds)) × (length (now binds) ≤ 16384) × Small (record { value = v; next = env }) ⌝ }
-    ensures { λ x. ⌜ (x ≡ counters (st .props) (st .bindings + 1) (st .work)) × (now (binds .exit) ≡ sets (now (binds .entry)) (4 * st .bindings) (numbersOf v env)) ⌝ }
+    ensures { λ x. ⌜ (x ≡ counters (st .props) (st .bindings + 1) (st .remaining .0)) × (now (binds .exit) ≡ sets (now (binds .entry)) (4 * st .bindings) (numbersOf v env)) ⌝ }
 {
     let n = st.bindings;
     let b = Binding {
@@ -101,10 +107,11 @@ pub fn bind_value(binds: &mut [u32], st: State, v: Value, env: usize) -> State
         next: env,
     };
     bindings::push(binds, n, b);
+    let remaining = st.remaining;
     State {
         props: st.props,
         bindings: n + 1,
-        work: st.work,
+        remaining: remaining,
     }
 }
 
@@ -145,8 +152,8 @@ fn call(
     requires { ⌜ Ready (shared (now phrases) (now patterns)) (mk (now forms) (now binds) st) env k 4 4 × (kind (now phrases) k ≡ 6) ⌝ }
     ensures { λ x. ⌜ Stepped (shared (now (phrases .entry)) (now (patterns .entry))) depth env k (mk (now (forms .entry)) (now (binds .entry)) st) (outOf (now (forms .exit)) (now (binds .exit)) x) ⌝ }
 {
-    let operator = words::at(phrases, 12 * k + 1);
-    let count = words::at(phrases, 12 * k + 2);
+    let operator = words::at(phrases, rows::PHRASE * k + 1);
+    let count = words::at(phrases, rows::PHRASE * k + 2);
     match evaluate(forms, binds, phrases, patterns, st, env, operator, depth) {
         Outcome::Done(v, st1) => {
             let onto = bindings::scope(v);
@@ -158,7 +165,7 @@ fn call(
                 st1,
                 env,
                 onto,
-                12 * k + 3,
+                rows::PHRASE * k + 3,
                 count,
                 depth,
             ) {
@@ -244,8 +251,8 @@ fn apply(
         Value::Rule(r) => Outcome::Refused(refusal::WRONG_KIND, k),
         Value::Function(f) => {
             let phrase = f.phrase;
-            if words::at(phrases, 12 * phrase + 1) == n {
-                let body = words::at(phrases, 12 * phrase + 2);
+            if words::at(phrases, rows::PHRASE * phrase + 1) == n {
+                let body = words::at(phrases, rows::PHRASE * phrase + 2);
                 return evaluate(forms, binds, phrases, patterns, st, e, body, depth);
             }
             Outcome::Refused(refusal::WRONG_COUNT, k)
@@ -268,12 +275,12 @@ fn bind(
     requires { ⌜ Ready (shared (now phrases) (now patterns)) (mk (now forms) (now binds) st) env k 4 4 × (kind (now phrases) k ≡ 7) ⌝ }
     ensures { λ x. ⌜ Stepped (shared (now (phrases .entry)) (now (patterns .entry))) depth env k (mk (now (forms .entry)) (now (binds .entry)) st) (outOf (now (forms .exit)) (now (binds .exit)) x) ⌝ }
 {
-    let first = words::at(phrases, 12 * k + 1);
+    let first = words::at(phrases, rows::PHRASE * k + 1);
     match evaluate(forms, binds, phrases, patterns, st, env, first, depth) {
         Outcome::Done(v, st1) => {
             let st2 = bind_value(binds, st1, v, env);
             let top = st2.bindings;
-            let second = words::at(phrases, 12 * k + 2);
+            let second = words::at(phrases, rows::PHRASE * k + 2);
             evaluate(forms, binds, phrases, patterns, st2, top, second, depth)
         }
         Outcome::Refused(x, y) => Outcome::Refused(x, y),
@@ -294,7 +301,7 @@ fn matched(
     requires { ⌜ Ready (shared (now phrases) (now patterns)) (mk (now forms) (now binds) st) env k 4 4 × (kind (now phrases) k ≡ 9) ⌝ }
     ensures { λ x. ⌜ Stepped (shared (now (phrases .entry)) (now (patterns .entry))) depth env k (mk (now (forms .entry)) (now (binds .entry)) st) (outOf (now (forms .exit)) (now (binds .exit)) x) ⌝ }
 {
-    let subject = words::at(phrases, 12 * k + 1);
+    let subject = words::at(phrases, rows::PHRASE * k + 1);
     match evaluate(forms, binds, phrases, patterns, st, env, subject, depth) {
         Outcome::Done(v, st1) => {
             let Value::Prop(p) = v else {
@@ -321,15 +328,16 @@ fn clause(
     requires { ⌜ Matching (shared (now phrases) (now patterns)) (mk (now forms) (now binds) st) env k p ⌝ }
     ensures { λ x. ⌜ Selected (shared (now (phrases .entry)) (now (patterns .entry))) depth env k p (mk (now (forms .entry)) (now (binds .entry)) st) (outOf (now (forms .exit)) (now (binds .exit)) x) ⌝ }
 {
-    let count = words::at(phrases, 12 * k + 2);
-    match patterns::choose(forms, patterns, phrases, 12 * k + 3, count, p) {
+    let count = words::at(phrases, rows::PHRASE * k + 2);
+    match patterns::choose(forms, patterns, phrases, rows::PHRASE * k + 3, count, p) {
         Choice::Chosen(body, parts) => {
             let n = st.bindings;
             let inner = bind_parts(binds, n, env, parts);
+            let remaining = st.remaining;
             let st1 = State {
                 props: st.props,
                 bindings: n + parts.count,
-                work: st.work,
+                remaining: remaining,
             };
             evaluate(forms, binds, phrases, patterns, st1, inner, body, depth)
         }
@@ -343,21 +351,21 @@ fn plain(binds: &mut [u32], phrases: &[u32], st: State, env: usize, k: usize) ->
     requires { ⌜ (kind (now phrases) k ≡ 6 → ⊥) × (kind (now phrases) k ≡ 7 → ⊥) × (kind (now phrases) k ≡ 9 → ⊥) ⌝ }
     ensures { λ x. ⌜ ((f q : List ℕ) (d : ℕ) → Stepped (shared (now (phrases .entry)) q) d env k (mk f (now (binds .entry)) st) (outOf f (now (binds .exit)) x)) ⌝ }
 {
-    let kind = words::at(phrases, 12 * k);
-    let a = words::at(phrases, 12 * k + 1);
-    if kind == kind::PROPOSITION {
+    let kind = words::at(phrases, rows::PHRASE * k);
+    let a = words::at(phrases, rows::PHRASE * k + 1);
+    if kind == phrase_kind::PROPOSITION {
         return Outcome::Done(Value::Prop(a), st);
     }
-    if kind == kind::VARIABLE {
+    if kind == phrase_kind::VARIABLE {
         return variable(binds, st, env, a, k);
     }
-    if kind == kind::CONSTRUCTOR {
+    if kind == phrase_kind::CONSTRUCTOR {
         return Outcome::Done(Value::Constructor(a), st);
     }
-    if kind == kind::RULE {
+    if kind == phrase_kind::RULE {
         return Outcome::Done(Value::Rule(a), st);
     }
-    if kind == kind::FIX {
+    if kind == phrase_kind::FIX {
         return fix(binds, phrases, st, env, a);
     }
     Outcome::Done(closure(kind, k, env), st)
@@ -377,10 +385,10 @@ fn variable(binds: &[u32], st: State, env: usize, i: usize, k: usize) -> Outcome
 // The closure of phrase a, bound to itself.
 fn fix(binds: &mut [u32], phrases: &[u32], st: State, env: usize, a: usize) -> Outcome
     requires { ⌜ (4 * st .bindings + 4 ≤ length (now binds)) × (length (now binds) ≤ 16384) × (env ≤ st .bindings) × (a < 16384) ⌝ }
-    ensures { λ x. ⌜ (x ≡ Done (selfed (now (phrases .entry)) a (st .bindings)) (counters (st .props) (st .bindings + 1) (st .work)))
+    ensures { λ x. ⌜ (x ≡ Done (selfed (now (phrases .entry)) a (st .bindings)) (counters (st .props) (st .bindings + 1) (st .remaining .0)))
         × (now (binds .exit) ≡ sets (now (binds .entry)) (4 * st .bindings) (numbersOf (selfed (now (phrases .entry)) a (st .bindings)) env)) ⌝ }
 {
-    let kind = words::at(phrases, 12 * a);
+    let kind = words::at(phrases, rows::PHRASE * a);
     let value = closure(kind, a, st.bindings + 1);
     Outcome::Done(value, bind_value(binds, st, value, env))
 }
@@ -393,7 +401,7 @@ fn closure(kind: usize, phrase: usize, env: usize) -> Value
         phrase: phrase,
         env: env,
     };
-    if kind == kind::METHOD {
+    if kind == phrase_kind::METHOD {
         return Value::Method(c);
     }
     Value::Function(c)
@@ -417,7 +425,7 @@ fn construct(
         let value = last.value;
         return match part(value) {
             Piece::Formed(q) => {
-                if c == 0 {
+                if c == NOT {
                     return formed(forms, st, c, q, 0);
                 }
                 let first = bindings::load(binds, last.next - 1);
@@ -439,12 +447,13 @@ fn formed(forms: &mut [u32], st: State, c: usize, p: usize, q: usize) -> Outcome
     ensures { λ x. ⌜ Made c p q st (now (forms .entry)) (now (forms .exit)) x ⌝ }
 {
     let made = forms::form(forms, st.props, forms::kind::NOT + c, p, q);
+    let remaining = st.remaining;
     Outcome::Done(
         Value::Prop(made.at),
         State {
             props: made.size,
             bindings: st.bindings,
-            work: st.work,
+            remaining: remaining,
         },
     )
 }
@@ -453,7 +462,7 @@ fn formed(forms: &mut [u32], st: State, c: usize, p: usize, q: usize) -> Outcome
 fn takes(c: usize) -> usize
     ensures { λ x. ⌜ x ≡ arity c ⌝ }
 {
-    if c == 0 {
+    if c == NOT {
         return 1;
     }
     2

@@ -1,6 +1,6 @@
 // Numbers in the bytes of a sheet or a certificate: groups of seven bits, low group first, shortest form only, at most 65,535.
 // Reading gives the number and the place past it, or the refusal that the definition names, at the number's place.
-// A cursor keeps the lent bytes with its place. Its functions are thin, over one of bytes and a place; `read` is the one way to it for every other caller.
+// A cursor keeps the lent bytes with its place. Its functions are thin, each over one of bytes and a place; `read`, `read_from` and `read_below` make one for a caller that has bytes and a place.
 // Writing stores the shortest form straight into the output; proofs/ReadBack.antt shows that reading it there gives the number.
 ghost use mathlib.Core.Path.{_≡_};
 ghost use Prim.Native.Nat.{_+_, _<_, _≤_};
@@ -36,6 +36,13 @@ pub fn cursor_at<'a>(src: &'a [u8], at: usize) -> Cursor<'a>
     Cursor { src, at }
 }
 
+// The cursor's bytes at another place.
+pub fn moved<'a>(c: Cursor<'a>, at: usize) -> Cursor<'a>
+    ensures { λ d. ⌜ (d .src ≡ c .entry .src) × (d .at ≡ at) ⌝ }
+{
+    Cursor { src: c.src, at }
+}
+
 // The number at the cursor.
 pub fn number_at<'a>(c: Cursor<'a>) -> Number
     ensures { λ r. ⌜ gotten r ≡ number (now (c .entry .src)) (c .entry .at) ⌝ }
@@ -47,30 +54,28 @@ pub fn number_at<'a>(c: Cursor<'a>) -> Number
 pub fn read_from(s: &[u8], at: usize, low: usize, top: usize) -> Number
     ensures { λ r. ⌜ gotten r ≡ from low top (now (s .entry)) at ⌝ }
 {
-    match read(s, at) {
-        Number::Got(v, next) => {
-            if low <= v && v <= top {
-                return Number::Got(v, next);
-            }
-            Number::Refused(refusal::OUT_OF_RANGE, at)
-        }
-        Number::Refused(why, place) => Number::Refused(why, place),
-    }
+    number_from(cursor_at(s, at), low, top)
+}
+
+// The number at the cursor, from low to top.
+pub fn number_from<'a>(c: Cursor<'a>, low: usize, top: usize) -> Number
+    ensures { λ r. ⌜ gotten r ≡ from low top (now (c .entry .src)) (c .entry .at) ⌝ }
+{
+    ranged(c.src, c.at, low, top)
 }
 
 // The reference at a place, below n; any other is a wrong reference.
 pub fn read_below(s: &[u8], at: usize, n: usize) -> Number
     ensures { λ r. ⌜ gotten r ≡ below n (now (s .entry)) at ⌝ }
 {
-    match read(s, at) {
-        Number::Got(v, next) => {
-            if v < n {
-                return Number::Got(v, next);
-            }
-            Number::Refused(refusal::WRONG_REFERENCE, at)
-        }
-        Number::Refused(why, place) => Number::Refused(why, place),
-    }
+    number_below(cursor_at(s, at), n)
+}
+
+// The reference at the cursor, below n.
+pub fn number_below<'a>(c: Cursor<'a>, n: usize) -> Number
+    ensures { λ r. ⌜ gotten r ≡ below n (now (c .entry .src)) (c .entry .at) ⌝ }
+{
+    referring(c.src, c.at, n)
 }
 
 // How many bytes a number takes.
@@ -116,6 +121,36 @@ fn first_group(s: &[u8], at: usize) -> Number
         return second_group(s, at, b - 128);
     }
     Number::Refused(refusal::BYTES_END, at)
+}
+
+// The number at a place, held to its range.
+fn ranged(s: &[u8], at: usize, low: usize, top: usize) -> Number
+    ensures { λ r. ⌜ gotten r ≡ from low top (now (s .entry)) at ⌝ }
+{
+    match first_group(s, at) {
+        Number::Got(v, next) => {
+            if low <= v && v <= top {
+                return Number::Got(v, next);
+            }
+            Number::Refused(refusal::OUT_OF_RANGE, at)
+        }
+        Number::Refused(why, place) => Number::Refused(why, place),
+    }
+}
+
+// The number at a place, held below n.
+fn referring(s: &[u8], at: usize, n: usize) -> Number
+    ensures { λ r. ⌜ gotten r ≡ below n (now (s .entry)) at ⌝ }
+{
+    match first_group(s, at) {
+        Number::Got(v, next) => {
+            if v < n {
+                return Number::Got(v, next);
+            }
+            Number::Refused(refusal::WRONG_REFERENCE, at)
+        }
+        Number::Refused(why, place) => Number::Refused(why, place),
+    }
 }
 
 // What follows a first group at a place that gives low and continues.

@@ -6,6 +6,11 @@ ghost use mathlib.Core.Path.{_≡_};
 ghost use Prim.Native.Nat.{_<_};
 ghost use Rattle.patterns.specs.Parts.{none-bound, with};
 ghost use Rattle.patterns.specs.Fitting.{exactly-so, Tried, Fits-so, Offered, Chosen-so};
+use records::pattern_kind;
+use records::rows;
+
+// A connective's kind in a proposition is so much above its kind in a pattern.
+const ABOVE: usize = forms::kind::NOT - pattern_kind::NOT;
 
 // What a pattern binds, left to right: so many propositions by their numbers, the first ones of four.
 pub struct Parts {
@@ -55,22 +60,22 @@ pub fn tried(forms: &[u32], patterns: &[u32], q: usize, p: usize, before: Parts)
     requires { ⌜ Tried (now forms) (now patterns) q p before ⌝ }
     ensures { λ r. ⌜ Fits-so (now (forms .entry)) (now (patterns .entry)) q p before r ⌝ }
 {
-    let kind = words::at(patterns, 5 * q);
-    let one = words::at(patterns, 5 * q + 1);
-    if kind == 0 {
+    let kind = words::at(patterns, rows::PATTERN * q);
+    let one = words::at(patterns, rows::PATTERN * q + 1);
+    if kind == pattern_kind::ANY {
         return Fit::Fits(extended(before, p));
     }
-    if kind == 1 {
+    if kind == pattern_kind::EXACTLY {
         return exact(one, p, before);
     }
     let w = words::at(forms, p);
-    if forms::kind_of(w) == kind + 1 {
+    if forms::kind_of(w) == kind + ABOVE {
         return match tried(forms, patterns, one, forms::left_of(w), before) {
             Fit::Fits(parts) => {
-                if kind == 2 {
+                if kind == pattern_kind::NOT {
                     return Fit::Fits(parts);
                 }
-                let two = words::at(patterns, 5 * q + 2);
+                let two = words::at(patterns, rows::PATTERN * q + 2);
                 tried(forms, patterns, two, forms::right_of(w), parts)
             }
             Fit::Misses => Fit::Misses,

@@ -15,6 +15,7 @@ ghost use Rattle.records.specs.Reading.{phraseRow, nameRef, exprRow, deduRow, o
 ghost use Rattle.phrases.specs.Shapes.{operandAt, abstractionRow, shapeOf, shapedRow, Begun};
 ghost use Rattle.records.specs.Answers.{filled, rowsIn, Put};
 use language::refusal;
+use language::rule;
 use numbers::Number;
 use records::Ended;
 use records::names;
@@ -23,7 +24,7 @@ use records::rows;
 use shape::Operand;
 use shape::Shape;
 
-mod shape;
+pub mod shape;
 
 // Phrase n, whose record is at a place, laid behind the n before it; a refusal lays nothing.
 pub fn read_phrase(
@@ -38,11 +39,11 @@ pub fn read_phrase(
     requires { ⌜ (props ≤ length (now names)) × (patterns ≤ 128) × (n < 512) × (6144 ≤ length (now phrases)) ⌝ }
     ensures { λ r. ⌜ Put 12 (phraseRow (now (s .entry)) (take props (now (names .entry))) patterns (rowsIn 12 n (now (phrases .entry))) at) r (12 * n) (now (phrases .entry)) (now (phrases .exit)) ⌝ }
 {
-    let mut row = [0u32; 12];
+    let mut row = [0u32; rows::PHRASE];
     match phrase_row(&mut row, phrases, names, s, props, patterns, n, at) {
         Ended::Refused(why, place) => Ended::Refused(why, place),
         Ended::At(next) => {
-            rows::lay(phrases, &row, 12 * n);
+            rows::lay(phrases, &row, rows::PHRASE * n);
             Ended::At(next)
         }
     }
@@ -377,7 +378,7 @@ fn operand(phrases: &[u32], s: &[u8], n: usize, what: Operand, at: usize) -> Num
     match what {
         Operand::Variable => numbers::read_from(s, at, 0, 255),
         Operand::Constructor => numbers::read_from(s, at, 0, 4),
-        Operand::Rule => numbers::read_from(s, at, 0, 15),
+        Operand::Rule => numbers::read_from(s, at, rule::CLAIM, rule::FALSE_ELIM),
         Operand::Parameters => numbers::read_from(s, at, 0, 4),
         Operand::Phrase => numbers::read_below(s, at, n),
         Operand::Expression => expression(phrases, s, n, at),
@@ -443,5 +444,5 @@ fn kind_of(phrases: &[u32], n: usize, k: usize) -> usize
     requires { ⌜ (k < n) × (n ≤ 512) ⌝ }
     ensures { λ r. ⌜ r ≡ cell (rowsIn 12 n (now (phrases .entry))) k 0 ⌝ }
 {
-    words::at(phrases, 12 * k)
+    words::at(phrases, rows::PHRASE * k)
 }

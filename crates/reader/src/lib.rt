@@ -13,8 +13,9 @@ ghost use Rattle.reader.specs.Laid.{Space, Propositions, Room, Laid, Rea
 use numbers::Number;
 use records::Ended;
 use records::props;
+use records::rows;
 
-mod parts;
+pub mod parts;
 
 // How many there are: propositions, words in use of the table, patterns, phrases, members of the base. And the root's number.
 pub struct Counts {
@@ -38,6 +39,17 @@ pub struct Named {
     pub words: usize,
     pub ended: Ended,
 }
+
+// How long the buffers of a sheet are at least: its names; words for its propositions, true and false; five numbers a pattern; twelve a phrase; its base.
+pub const NAMES: usize = parts::MOST_PROPOSITIONS;
+
+pub const FORMS: usize = parts::MOST_PROPOSITIONS + 2;
+
+pub const PATTERNS: usize = parts::MOST_PATTERNS * rows::PATTERN;
+
+pub const PHRASES: usize = parts::MOST_PHRASES * rows::PHRASE;
+
+pub const BASE: usize = parts::MOST_MEMBERS;
 
 // A sheet: what is read of it stands in front of the five buffers, also where the rest is refused.
 pub fn read_sheet(

@@ -15,6 +15,18 @@ use records::Ended;
 use records::names;
 use records::patterns;
 
+// How many propositions a sheet has at most.
+pub const MOST_PROPOSITIONS: usize = 512;
+
+// How many patterns.
+pub const MOST_PATTERNS: usize = 128;
+
+// How many phrases.
+pub const MOST_PHRASES: usize = 512;
+
+// How many numbers its base has at most.
+pub const MOST_MEMBERS: usize = 64;
+
 // How many records were read, and where that ended.
 pub struct Listed {
     pub count: usize,
@@ -27,7 +39,7 @@ pub fn propositions(names: &mut [u32], forms: &mut [u32], s: &[u8]) -> Named
     ensures { λ r. ⌜ Propositions (partOne (now (s .entry))) r (now (names .entry)) (now (forms .entry)) (now (names .exit)) (now (forms .exit)) ⌝ }
 {
     let words = forms::start(forms);
-    match numbers::read_from(s, 0, 0, 512) {
+    match numbers::read_from(s, 0, 0, MOST_PROPOSITIONS) {
         Number::Refused(why, place) => Named {
             props: 0,
             words: words,
@@ -42,7 +54,7 @@ pub fn patterns(patterns: &mut [u32], names: &[u32], s: &[u8], props: usize, at:
     requires { ⌜ (props ≤ length (now names)) × (640 ≤ length (now patterns)) ⌝ }
     ensures { λ r. ⌜ Listing 5 128 (partTwo (now (s .entry)) (take props (now (names .entry))) at) r (now (patterns .entry)) (now (patterns .exit)) ⌝ }
 {
-    match numbers::read_from(s, at, 0, 128) {
+    match numbers::read_from(s, at, 0, MOST_PATTERNS) {
         Number::Refused(why, place) => Listed {
             count: 0,
             ended: Ended::Refused(why, place),
@@ -63,7 +75,7 @@ pub fn phrases(
     requires { ⌜ (props ≤ length (now names)) × (patterns ≤ 128) × (6144 ≤ length (now phrases)) ⌝ }
     ensures { λ r. ⌜ Listing 12 512 (partThree (now (s .entry)) (take props (now (names .entry))) patterns at) r (now (phrases .entry)) (now (phrases .exit)) ⌝ }
 {
-    match numbers::read_from(s, at, 1, 512) {
+    match numbers::read_from(s, at, 1, MOST_PHRASES) {
         Number::Refused(why, place) => Listed {
             count: 0,
             ended: Ended::Refused(why, place),
@@ -77,7 +89,7 @@ pub fn base(base: &mut [u32], names: &[u32], s: &[u8], props: usize, at: usize) 
     requires { ⌜ (props ≤ length (now names)) × (64 ≤ length (now base)) ⌝ }
     ensures { λ r. ⌜ Gathered (partFour (now (s .entry)) (take props (now (names .entry))) at) r (now (base .entry)) (now (base .exit)) ⌝ }
 {
-    match numbers::read_from(s, at, 0, 64) {
+    match numbers::read_from(s, at, 0, MOST_MEMBERS) {
         Number::Refused(why, place) => Listed {
             count: 0,
             ended: Ended::Refused(why, place),

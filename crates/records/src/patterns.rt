@@ -42,11 +42,11 @@ pub fn read_pattern(
     requires { ⌜ (props ≤ length (now names)) × (n < 128) × (640 ≤ length (now patterns)) ⌝ }
     ensures { λ r. ⌜ Put 5 (patternRow (now (s .entry)) (take props (now (names .entry))) (rowsIn 5 n (now (patterns .entry))) at) r (5 * n) (now (patterns .entry)) (now (patterns .exit)) ⌝ }
 {
-    let mut row = [0u32; 5];
+    let mut row = [0u32; rows::PATTERN];
     match pattern_row(&mut row, patterns, names, s, props, n, at) {
         Ended::Refused(why, place) => Ended::Refused(why, place),
         Ended::At(next) => {
-            rows::lay(patterns, &row, 5 * n);
+            rows::lay(patterns, &row, rows::PATTERN * n);
             Ended::At(next)
         }
     }
@@ -219,8 +219,8 @@ fn small(row: &mut [u32], start: usize, p: Pattern, next: usize) -> Ended
     words::put(row, 0, p.kind);
     words::put(row, 1, p.left);
     words::put(row, 2, p.right);
-    words::put(row, 3, p.binds);
-    words::put(row, 4, p.parts);
+    words::put(row, BINDS, p.binds);
+    words::put(row, PARTS, p.parts);
     Ended::At(next)
 }
 
@@ -229,5 +229,5 @@ fn cell(patterns: &[u32], n: usize, p: usize, j: usize) -> usize
     requires { ⌜ (p < n) × (n < 128) × (j < 5) ⌝ }
     ensures { λ r. ⌜ (r ≡ cell (rowsIn 5 n (now (patterns .entry))) p j) × (r < 2 ^ 32) ⌝ }
 {
-    names::cell(patterns, 5 * p + j)
+    names::cell(patterns, rows::PATTERN * p + j)
 }

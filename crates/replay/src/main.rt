@@ -17,11 +17,23 @@ use expressions::State;
 use language::Checked;
 use language::Evaluated;
 use language::Inferences;
+use language::Remaining;
 use language::Work;
 use libc::STDOUT_FILENO;
 use reader::SheetRead;
+use records::phrase_kind;
+use records::rows;
 use requests::Decimal;
 use requests::Hex;
+
+// A line is shorter.
+const LINE: usize = 140001;
+
+// A field says no more bytes.
+const FIELD: usize = 70000;
+
+// More room for a certificate changes no answer: none is as long (`longest-accepted` of `theorems`).
+const ROOM: usize = 65536;
 
 // How much of a line is held, and whether the input has ended.
 struct Taken {
@@ -30,7 +42,7 @@ struct Taken {
 }
 
 fn main() {
-    let mut line = [0u8; 140001];
+    let mut line = [0u8; LINE];
     let mut long = 0;
     let mut turns = u64::MAX;
     while turns > 0 {
@@ -112,7 +124,7 @@ fn is_answered(line: &[u8]) -> bool {
         return is_check(line);
     }
     if line[0] == b'E' {
-        return is_evaluation(line, 2, 11264);
+        return is_evaluation(line, 2, evaluator::TOKENS);
     }
     if line[0] == b'T' {
         return is_lent(line);
@@ -122,7 +134,7 @@ fn is_answered(line: &[u8]) -> bool {
 
 // V SHEET where values are asked for, else S SHEET.
 fn is_sheet(line: &[u8], values: bool) -> bool {
-    let mut bytes = [0u8; 70000];
+    let mut bytes = [0u8; FIELD];
     let to = requests::field_end(line, 2);
     if to < line.len() {
         return false;
@@ -146,11 +158,11 @@ fn answer_either(sheet: &[u8], values: bool) {
 
 // The answer to S SHEET.
 fn answer_sheet(sheet: &[u8]) {
-    let mut names = [0u32; 512];
-    let mut forms = [0u32; 514];
-    let mut patterns = [0u32; 640];
-    let mut phrases = [0u32; 6144];
-    let mut base = [0u32; 64];
+    let mut names = [0u32; reader::NAMES];
+    let mut forms = [0u32; reader::FORMS];
+    let mut patterns = [0u32; reader::PATTERNS];
+    let mut phrases = [0u32; reader::PHRASES];
+    let mut base = [0u32; reader::BASE];
     io::write_all(STDOUT_FILENO, b"S");
     match reader::read_sheet(
         &mut names,
@@ -178,14 +190,14 @@ fn answer_sheet(sheet: &[u8]) {
 
 // The answer to V SHEET: the sheet is read anew for each phrase.
 fn answer_values(sheet: &[u8]) {
-    let mut names = [0u32; 512];
-    let mut forms = [0u32; 4610];
-    let mut patterns = [0u32; 640];
-    let mut phrases = [0u32; 6144];
-    let mut base = [0u32; 64];
-    let mut binds = [0u32; 16384];
+    let mut names = [0u32; reader::NAMES];
+    let mut forms = [0u32; evaluator::FORMS];
+    let mut patterns = [0u32; reader::PATTERNS];
+    let mut phrases = [0u32; reader::PHRASES];
+    let mut base = [0u32; reader::BASE];
+    let mut binds = [0u32; evaluator::BINDINGS];
     let mut k = 0;
-    while k < 512 {
+    while k < reader::parts::MOST_PHRASES {
         answer_phrase(
             &mut names,
             &mut forms,
@@ -216,15 +228,24 @@ fn answer_phrase(
     match reader::read_sheet(names, forms, patterns, phrases, base, sheet) {
         SheetRead::Read(c) => {
             if k < c.phrases {
-                if words::at(phrases, 12 * k) < 16 {
+                if words::at(phrases, rows::PHRASE * k) < phrase_kind::METHOD_CALL {
                     let st = State {
                         props: c.words,
                         bindings: 0,
-                        work: 1024,
+                        remaining: Remaining(evaluator::BUDGET),
                     };
                     print_value(
                         k,
-                        expressions::evaluate(forms, binds, phrases, patterns, st, 0, k, 64),
+                        expressions::evaluate(
+                            forms,
+                            binds,
+                            phrases,
+                            patterns,
+                            st,
+                            0,
+                            k,
+                            evaluator::NESTING,
+                        ),
                     );
                 }
             }
@@ -241,7 +262,8 @@ fn print_value(k: usize, outcome: Outcome) {
         Outcome::Done(v, st) => {
             number(0);
             value(v);
-            number(st.work);
+            let left = st.remaining;
+            number(left.0);
         }
         Outcome::Refused(why, place) => {
             number(why);
@@ -270,7 +292,7 @@ fn two(a: usize, b: usize) {
 
 // C SHEET CERTIFICATE.
 fn is_check(line: &[u8]) -> bool {
-    let mut sheet = [0u8; 70000];
+    let mut sheet = [0u8; FIELD];
     let to = requests::field_end(line, 2);
     if to < line.len() {
         return match requests::read_hex(&mut sheet, line, 2, to) {
@@ -283,7 +305,7 @@ fn is_check(line: &[u8]) -> bool {
 
 // The certificate of such a line, from a place on.
 fn is_certificate(sheet: &[u8], line: &[u8], from: usize) -> bool {
-    let mut certificate = [0u8; 70000];
+    let mut certificate = [0u8; FIELD];
     let to = requests::field_end(line, from);
     if to < line.len() {
         return false;
@@ -299,11 +321,11 @@ fn is_certificate(sheet: &[u8], line: &[u8], from: usize) -> bool {
 
 // The answer to C SHEET CERTIFICATE.
 fn answer_check(sheet: &[u8], certificate: &[u8]) {
-    let mut names = [0u32; 4608];
-    let mut forms = [0u32; 12290];
-    let mut patterns = [0u32; 640];
-    let mut phrases = [0u32; 6144];
-    let mut base = [0u32; 576];
+    let mut names = [0u32; checker::NAMES];
+    let mut forms = [0u32; checker::FORMS];
+    let mut patterns = [0u32; checker::PATTERNS];
+    let mut phrases = [0u32; checker::PHRASES];
+    let mut base = [0u32; checker::BASE];
     io::write_all(STDOUT_FILENO, b"C");
     match checker::check(
         sheet,
@@ -365,7 +387,7 @@ fn is_room(line: &[u8], from: usize, lent: usize, budget: usize) -> bool {
 
 // SHEET of such a line, from a place on.
 fn is_evaluated(line: &[u8], from: usize, lent: usize, budget: usize, room: usize) -> bool {
-    let mut sheet = [0u8; 70000];
+    let mut sheet = [0u8; FIELD];
     let to = requests::field_end(line, from);
     if to < line.len() {
         return false;
@@ -379,10 +401,10 @@ fn is_evaluated(line: &[u8], from: usize, lent: usize, budget: usize, room: usiz
     }
 }
 
-// The answer to such a line. No certificate is as long as 65,536 bytes (`longest-accepted` of `theorems`), so that more room changes nothing.
+// The answer to such a line.
 fn answer_evaluation(sheet: &[u8], lent: usize, budget: usize, room: usize) {
-    let mut out = [0u8; 65536];
-    if room < 65536 {
+    let mut out = [0u8; ROOM];
+    if room < ROOM {
         return lend_tokens(&mut out[..room], sheet, lent, budget);
     }
     lend_tokens(&mut out, sheet, lent, budget)
@@ -392,8 +414,8 @@ fn answer_evaluation(sheet: &[u8], lent: usize, budget: usize, room: usize) {
 fn lend_tokens(out: &mut [u8], sheet: &[u8], lent: usize, budget: usize)
     requires { ⌜ length (now out) ≤ 65536 ⌝ }
 {
-    let mut tokens = [0u32; 11264];
-    if lent < 11264 {
+    let mut tokens = [0u32; evaluator::TOKENS];
+    if lent < evaluator::TOKENS {
         return evaluate_into(&mut tokens[..lent], out, sheet, budget);
     }
     evaluate_into(&mut tokens, out, sheet, budget)
@@ -403,12 +425,12 @@ fn lend_tokens(out: &mut [u8], sheet: &[u8], lent: usize, budget: usize)
 fn evaluate_into(tokens: &mut [u32], out: &mut [u8], sheet: &[u8], budget: usize)
     requires { ⌜ length (now out) ≤ 65536 ⌝ }
 {
-    let mut listing = [0u32; 9220];
-    let mut forms = [0u32; 4610];
-    let mut patterns = [0u32; 640];
-    let mut phrases = [0u32; 6144];
-    let mut base = [0u32; 1088];
-    let mut binds = [0u32; 16384];
+    let mut listing = [0u32; evaluator::LISTING];
+    let mut forms = [0u32; evaluator::FORMS];
+    let mut patterns = [0u32; evaluator::PATTERNS];
+    let mut phrases = [0u32; evaluator::PHRASES];
+    let mut base = [0u32; evaluator::BASE];
+    let mut binds = [0u32; evaluator::BINDINGS];
     match evaluator::evaluate(
         sheet,
         budget,
@@ -430,7 +452,7 @@ fn evaluate_into(tokens: &mut [u32], out: &mut [u8], sheet: &[u8], budget: usize
 fn accepted(certificate: &[u8], work: Work, inferences: Inferences)
     requires { ⌜ length (now certificate) ≤ 65536 ⌝ }
 {
-    let mut text = [0u8; 131072];
+    let mut text = [0u8; 2 * ROOM];
     let n = certificate.len();
     requests::write_hex(&mut text, certificate);
     io::write_all(STDOUT_FILENO, b"E");

@@ -22,6 +22,23 @@ pub enum Decimal {
     Malformed,
 }
 
+// What cuts a line into fields.
+const BLANK: usize = b' ' as usize;
+
+// What says that there are no bytes.
+const DASH: usize = b'-' as usize;
+
+// The digits 0 to 9, then a to f; a letter's value is what is over the tenth character before a.
+const ZERO: usize = b'0' as usize;
+
+const NINE: usize = b'9' as usize;
+
+const LETTER_A: usize = b'a' as usize;
+
+const LETTER_F: usize = b'f' as usize;
+
+const BEFORE_A: usize = LETTER_A - 10;
+
 // The largest number of 64 bits.
 const LARGEST: usize = 18446744073709551615;
 
@@ -31,7 +48,7 @@ pub fn field_end(line: &[u8], from: usize) -> usize
 {
     let mut i = from;
     while i < line.len() {
-        if wide(line[i]) == 32 {
+        if wide(line[i]) == BLANK {
             return i;
         }
         i += 1;
@@ -108,14 +125,14 @@ fn written(v: usize) -> usize
     requires { ⌜ v < 16 ⌝ }
     ensures { λ r. ⌜ (r ≡ digitOf v) × (r < 256) ⌝ }
 {
-    if v < 10 { v + 48 } else { v + 87 }
+    if v < 10 { v + ZERO } else { v + BEFORE_A }
 }
 
 // A dash, which says no bytes.
 fn dash(line: &[u8], at: usize) -> Hex
     ensures { λ r. ⌜ r ≡ told 0 (eqb (getD (now (line .entry)) at 0) 45) ⌝ }
 {
-    if character(line, at) == 45 {
+    if character(line, at) == DASH {
         return Hex::Bytes(0);
     }
     Hex::Malformed
@@ -162,9 +179,9 @@ fn character(line: &[u8], at: usize) -> usize
 fn digit(c: usize) -> usize
     ensures { λ r. ⌜ r ≡ nibble c ⌝ }
 {
-    if 48 <= c {
-        if c <= 57 {
-            return c - 48;
+    if ZERO <= c {
+        if c <= NINE {
+            return c - ZERO;
         }
         return last_six(c);
     }
@@ -175,9 +192,9 @@ fn digit(c: usize) -> usize
 fn last_six(c: usize) -> usize
     ensures { λ r. ⌜ r ≡ letter c ⌝ }
 {
-    if 97 <= c {
-        if c <= 102 {
-            return c - 87;
+    if LETTER_A <= c {
+        if c <= LETTER_F {
+            return c - BEFORE_A;
         }
         return 16;
     }

@@ -4,6 +4,7 @@ use mathlib.Core.Path.{_≡_}
 use mathlib.Core.Bool.{Bool, true, false}
 use mathlib.Core.List.{List, [], _∷_, _++_}
 use lib.ListN.{length, getD, take}
+use Rattle.language.specs.Refusals.{wrong-shapes, premise-missing}
 use Rattle.language.specs.Form.{Form, verum, members}
 use Rattle.language.specs.Rules.{Ruled, gives, misshapen, ruled}
 use Rattle.words.specs.Front.{front}
@@ -11,6 +12,12 @@ use Rattle.forms.specs.Table.{tree, Table, number-of, growing}
 use Rattle.rules.specs.declared.Applied.{Applied}
 use Rattle.rules.specs.declared.Applied.the-variants.{Given, Misshapen, Missing}
 use Rattle.rules.specs.Base.{baseOf}
+
+-- an application's number: 0; 13, the arguments don't have the rule's shapes; 14, a premise is not in the base
+abbrev pub appliedNumber : Applied → ℕ
+appliedNumber (Given p n) = 0
+appliedNumber Misshapen = wrong-shapes
+appliedNumber Missing = premise-missing
 
 -- words that stand for trees
 pub record Standing (ws : List ℕ) : Type 0 where

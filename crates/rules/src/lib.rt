@@ -10,6 +10,7 @@ ghost use Rattle.forms.specs.Word.{kind, left, right};
 ghost use Rattle.rules.specs.Shapes.{Safe, Narrow, modusPonens, modusTollens, doubleNegation, dilemma, dilemmaEnd, equivalence, equivalenceEnd, absurdity, leftPart, rightPart, leftIff, rightIff, shaped};
 ghost use Rattle.rules.specs.Base.{within, premises, asked, grounds};
 ghost use Rattle.rules.specs.Applied.{Ready, Ruling};
+use language::rule;
 
 // The conclusion's number and the count of words then in use; or that the arguments have not the rule's shapes (13);
 // or that a premise is not in the base (14).
@@ -27,7 +28,7 @@ enum Shape {
 }
 
 // For each rule the arguments that are its premises: 1 the first, 2 the second, 4 the third.
-const PREMISES: [usize; 16] = [1, 3, 3, 1, 3, 1, 1, 1, 2, 7, 3, 1, 1, 0, 3, 0];
+const PREMISES: [usize; rule::COUNT] = [1, 3, 3, 1, 3, 1, 1, 1, 2, 7, 3, 1, 1, 0, 3, 0];
 
 // The rule at arguments x, y and z, in a table of n words and a base of b numbers. A number that is no rule's fits no arguments.
 pub fn apply(
@@ -78,7 +79,11 @@ fn grounded(base: &[u32], b: usize, rule: usize, x: usize, y: usize, z: usize) -
 fn premises_of(rule: usize) -> usize
     ensures { λ r. ⌜ r ≡ getD premises rule 0 ⌝ }
 {
-    if rule < 16 { PREMISES[rule] } else { 0 }
+    if rule < rule::COUNT {
+        PREMISES[rule]
+    } else {
+        0
+    }
 }
 
 // Whether p, where it is asked, is in the base.
@@ -111,13 +116,13 @@ fn conclude(t: &[u32], rule: usize, x: usize, y: usize, z: usize) -> Shape
     requires { ⌜ Safe (now t) x y ⌝ }
     ensures { λ r. ⌜ r ≡ shaped (now (t .entry)) rule x y z ⌝ }
 {
-    if rule < 4 {
+    if rule < rule::BOTH {
         return first_four(t, rule, x, y);
     }
-    if rule < 8 {
+    if rule < rule::RIGHT_EITHER {
         return second_four(t, rule, x, y);
     }
-    if rule < 12 {
+    if rule < rule::RIGHT_IFF {
         return third_four(t, rule, x, y, z);
     }
     last_four(t, rule, x, y)
@@ -129,9 +134,9 @@ fn first_four(t: &[u32], rule: usize, x: usize, y: usize) -> Shape
     ensures { λ r. ⌜ ((z : ℕ) → r ≡ shaped (now (t .entry)) rule x y z) ⌝ }
 {
     match rule {
-        0 => Shape::Known(x),
-        1 => modus_ponens(t, x, y),
-        2 => modus_tollens(t, x, y),
+        rule::CLAIM => Shape::Known(x),
+        rule::MODUS_PONENS => modus_ponens(t, x, y),
+        rule::MODUS_TOLLENS => modus_tollens(t, x, y),
         _ => double_negation(t, x),
     }
 }
@@ -142,9 +147,9 @@ fn second_four(t: &[u32], rule: usize, x: usize, y: usize) -> Shape
     ensures { λ r. ⌜ ((z : ℕ) → r ≡ shaped (now (t .entry)) rule x y z) ⌝ }
 {
     match rule {
-        4 => Shape::New(forms::word(forms::kind::AND, x, y)),
-        5 => left_part(t, x),
-        6 => right_part(t, x),
+        rule::BOTH => Shape::New(forms::word(forms::kind::AND, x, y)),
+        rule::LEFT_AND => left_part(t, x),
+        rule::RIGHT_AND => right_part(t, x),
         _ => Shape::New(forms::word(forms::kind::OR, x, y)),
     }
 }
@@ -155,9 +160,9 @@ fn third_four(t: &[u32], rule: usize, x: usize, y: usize, z: usize) -> Shape
     ensures { λ r. ⌜ r ≡ shaped (now (t .entry)) rule x y z ⌝ }
 {
     match rule {
-        8 => Shape::New(forms::word(forms::kind::OR, x, y)),
-        9 => dilemma(t, x, y, z),
-        10 => equivalence(t, x, y),
+        rule::RIGHT_EITHER => Shape::New(forms::word(forms::kind::OR, x, y)),
+        rule::CONSTRUCTIVE_DILEMMA => dilemma(t, x, y, z),
+        rule::EQUIVALENCE => equivalence(t, x, y),
         _ => left_iff(t, x),
     }
 }
@@ -168,10 +173,10 @@ fn last_four(t: &[u32], rule: usize, x: usize, y: usize) -> Shape
     ensures { λ r. ⌜ ((z : ℕ) → r ≡ shaped (now (t .entry)) rule x y z) ⌝ }
 {
     match rule {
-        12 => right_iff(t, x),
-        13 => Shape::Known(forms::TRUE),
-        14 => absurdity(t, x, y),
-        15 => Shape::New(forms::word(forms::kind::NOT, forms::FALSE, 0)),
+        rule::RIGHT_IFF => right_iff(t, x),
+        rule::TRUE_INTRO => Shape::Known(forms::TRUE),
+        rule::ABSURD => absurdity(t, x, y),
+        rule::FALSE_ELIM => Shape::New(forms::word(forms::kind::NOT, forms::FALSE, 0)),
         _ => Shape::Unfit,
     }
 }

@@ -1,5 +1,5 @@
 -- The checker says that a certificate stands exactly when its bytes read and the plain rules prove what it states.
-use Prim.Native.Nat.{ℕ, suc, _+_, _≤_}
+use Prim.Native.Nat.{ℕ, suc, _+_, _≤_, _<_}
 use native.Mathlib.Omega.{arith}
 use mathlib.Core.Path.{_≡_, refl, ap, _∙_}
 use mathlib.Core.List.{List, [], _∷_}
@@ -8,7 +8,7 @@ use lib.ListN.{length, getD}
 use lib.Dec.{ltb, eqb}
 use borrow.Author.Tests.{eqb-true}
 use Rattle.language.specs.Refusals.{out-of-range, bytes-after, premise-missing, certificate-over, stated-differs}
-use Rattle.language.specs.Form.{Form, verum, same, members}
+use Rattle.language.specs.Form.{Form, verum, falsum, same, members}
 use Rattle.language.specs.Rules.{arity, Ruled, gives, misshapen, ruled}
 use Rattle.language.specs.Numbers.{Got, got, no, pick, from, below, times}
 use Rattle.language.specs.Read.{proposition, reference}
@@ -16,10 +16,10 @@ use Rattle.language.specs.Plain.{Plain, infer, seq, under, Proves, by-rule, in-
 use Rattle.language.specs.Check.{Node, ruleN, seqN, underN, plain, Counted, ruleNode, ReadNode, inner, node, Certificate, certificate-at}
 use Rattle.language.specs.Check.{own, ruledIn, concluded, stands, falls, stated, checked, against, verdict}
 use Rattle.theorems.specs.Demands.{Checks-exactly, Stands-true}
-use Rattle.theorems.proofs.Lists.{clash}
+use Rattle.theorems.proofs.Lists.{clash, getD-within}
 use Rattle.theorems.proofs.Members.{same-is, same-self}
 use Rattle.theorems.proofs.Soundness.{proves-sound}
-use Rattle.theorems.proofs.Reading.{Ensures, given, refused, ensured, ensure, ensures-map, ensures-check, ensures-then, whatever, ensures-from, ensures-times, got-then, got-check}
+use Rattle.theorems.proofs.Reading.{Ensures, given, refused, ensured, ensure, ensures-map, ensures-check, ensures-then, whatever, ensures-from, ensures-below, ensures-times, got-then, got-check}
 
 -- each rule is one of the sixteen, and has its number of arguments
 abbrev pub Regular : Plain → Type 0
@@ -52,16 +52,16 @@ module _ (s : List ℕ) (ps : List Form) where
       whatever (from 0 2 s at) λ kind a. ensures-check (ltb used 7168) certificate-over at λ t.
       inner-regular (node n s ps) (node-regular n) used at kind used a
 
--- a certificate that is read ends with its bytes, and its proof is regular
-pub certificate-read : (bytes : List ℕ) → Ensures (λ c end. (end ≡ length bytes) × Regular (plain (c .proof))) (certificate-at bytes)
+-- a certificate that is read ends with its bytes, its proof is regular, and its conclusion is listed
+pub certificate-read : (bytes : List ℕ) → Ensures (λ c end. (end ≡ length bytes) × Regular (plain (c .proof)) × (c .conclusion < length (c .forms))) (certificate-at bytes)
 unfolding certificate-at
 certificate-read bytes =
     whatever (from 0 4608 bytes 0) λ n a.
     whatever (times n (proposition bytes) [] a) λ ps b.
     ensures-then (node-regular bytes ps 512 0 b) λ x c reg.
-    whatever (below (length ps) bytes c) λ k end.
+    ensures-then (ensures-below (length ps) bytes c) λ k end low.
     ensures-check (eqb end (length bytes)) bytes-after end λ t.
-    given (eqb-true end (length bytes) t, reg)
+    given (eqb-true end (length bytes) t, reg, low)
 
 -- what is concluded is proved
 pub concluded-proves : (β : List Form) (N : Node) → Regular (plain N) → Ensures (λ q at. Proves β (plain N) q) (concluded β N)
@@ -90,18 +90,18 @@ proves-concluded β (underN p a) (assuming x) =
 
 -- what the checker says of a certificate that is read
 abbrev pub Says : List Form → Certificate → ℕ → ℕ → Type 0
-Says β c k i = (c .conclusion ≡ k) × Proves β (plain (c .proof)) (getD (c .forms) k verum) × (i ≡ inferences (plain (c .proof)))
+Says β c k i = (c .conclusion ≡ k) × Proves β (plain (c .proof)) (getD (c .forms) k falsum) × (i ≡ inferences (plain (c .proof)))
 
-pub stands-says : (β : List Form) (c : Certificate) (k i : ℕ) → Regular (plain (c .proof)) →
+pub stands-says : (β : List Form) (c : Certificate) (k i : ℕ) → Regular (plain (c .proof)) → c .conclusion < length (c .forms) →
     stated c (concluded β (c .proof)) ≡ stands k i → Says β c k i
 unfolding stated
-stands-says β c k i reg e = by-conclusion (concluded β (c .proof)) refl e
+stands-says β c k i reg low e = by-conclusion (concluded β (c .proof)) refl e
   where
     by-equality : (q : Form) (at : ℕ) → concluded β (c .proof) ≡ got q at → (t : Bool) → same q (getD (c .forms) (c .conclusion) verum) ≡ t →
         pick t (stands (c .conclusion) (inferences (plain (c .proof)))) (falls stated-differs (c .place)) ≡ stands k i → Says β c k i
     by-equality q at w true t e =
         let k-is : c .conclusion ≡ k = cc in
-        let q-is : q ≡ getD (c .forms) k verum = rw (← k-is) (same-is t) in
+        let q-is : q ≡ getD (c .forms) k falsum = rw (← k-is) (same-is t ∙ getD-within (c .forms) (c .conclusion) verum falsum low) in
         (k-is, rw (← q-is) (ensured (concluded-proves β (c .proof) reg) w), cc)
     by-equality q at w false t e = absurd (clash (cc))
 
@@ -109,21 +109,24 @@ stands-says β c k i reg e = by-conclusion (concluded β (c .proof)) refl e
     by-conclusion (got q at) w e = by-equality q at w (same q (getD (c .forms) (c .conclusion) verum)) refl e
     by-conclusion (no n p) w e = absurd (clash (cc))
 
-pub says-stands : (β : List Form) (c : Certificate) (k i : ℕ) → Says β c k i → stated c (concluded β (c .proof)) ≡ stands k i
+pub says-stands : (β : List Form) (c : Certificate) (k i : ℕ) → c .conclusion < length (c .forms) → Says β c k i → stated c (concluded β (c .proof)) ≡ stands k i
 unfolding stated pick
-says-stands β c k i (k-is, proved, i-is) = rw (proves-concluded β (c .proof) proved .1, k-is, same-self, i-is)
+says-stands β c k i low (k-is, proved, i-is) =
+    let q-is = getD-within (c .forms) (c .conclusion) verum falsum low in
+    rw (proves-concluded β (c .proof) proved .1, q-is, k-is, same-self, i-is)
 
 pub checks-exactly : Checks-exactly
 unfolding Checks-exactly verdict against checked own
-checks-exactly s bytes S end k i e = rw e (λ v. forth (certificate-at bytes) refl v, λ x. rw (x .1) (says-stands (S .base) (x .0) k i (x .2, x .3, x .4)))
+checks-exactly s bytes S end k i e =
+    rw e (λ v. forth (certificate-at bytes) refl v, λ x. rw (x .1) (says-stands (S .base) (x .0) k i (ensured (certificate-read bytes) (x .1) .2) (x .2, x .3, x .4)))
   where
     forth : (g : Got Certificate) → certificate-at bytes ≡ g → checked S (own g) ≡ stands k i →
         (c : Certificate) × (certificate-at bytes ≡ got c (length bytes)) × (c .conclusion ≡ k)
-        × Proves (S .base) (plain (c .proof)) (getD (c .forms) k verum) × (i ≡ inferences (plain (c .proof)))
+        × Proves (S .base) (plain (c .proof)) (getD (c .forms) k falsum) × (i ≡ inferences (plain (c .proof)))
     forth (no n p) w v = absurd (clash (cc))
     forth (got c f) w v =
         let r = ensured (certificate-read bytes) w in
-        let x = stands-says (S .base) c k i (r .1) v in
+        let x = stands-says (S .base) c k i (r .1) (r .2) v in
         (c, w ∙ ap (got c) (r .0), x .0, x .1, x .2)
 
 pub stands-true : Stands-true

@@ -1,7 +1,7 @@
--- Laws of `All`; and two constructors are never equal.
+-- Laws of `All`, and of lookups in range; and two constructors are never equal.
 use Prim.Native.Nat.{ℕ, zero, suc, _<_}
 use native.Mathlib.Omega.{arith}
-use mathlib.Core.Path.{_≡_}
+use mathlib.Core.Path.{_≡_, refl}
 use mathlib.Core.List.{List, [], _∷_, _++_}
 use lib.ListN.{length, getD}
 use Rattle.theorems.specs.Lists.{All}
@@ -27,6 +27,12 @@ module _ {A : Type 0} (G : A → Type 0) where
   pub all-map : (H : A → Type 0) → ((a : A) → G a → H a) → (l : List A) → All G l → All H l
   all-map H f [] h = tt
   all-map H f (a ∷ l) h = (f a (h .0), all-map H f l (h .1))
+
+-- a lookup in range needs no default
+pub getD-within : {A : Type 0} (l : List A) (i : ℕ) (x y : A) → i < length l → getD l i x ≡ getD l i y
+getD-within [] i x y h = absurd (omega arith)
+getD-within (a ∷ l) zero x y h = refl
+getD-within (a ∷ l) (suc i) x y h = getD-within l i x y (omega arith)
 
 -- the rows of a table, one below the other, each with its proof
 infixr 5 _&_

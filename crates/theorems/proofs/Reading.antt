@@ -45,11 +45,6 @@ module _ {A : Type 0} {G : A → ℕ → Type 0} where
   ensures-pick true k m = k refl
   ensures-pick false k m = m refl
 
-module _ {A : Type 0} {G H : A → ℕ → Type 0} where
-  pub ensures-both : {g : Got A} → Ensures G g → Ensures H g → Ensures (λ a at. G a at × H a at) g
-  ensures-both (given h) k = given (h, ensured k refl)
-  ensures-both refused k = refused
-
 module _ {A B : Type 0} {H : B → ℕ → Type 0} where
   pub ensures-then : {G : A → ℕ → Type 0} {g : Got A} {f : A → ℕ → Got B} →
       Ensures G g → ((a : A) (at : ℕ) → G a at → Ensures H (f a at)) → Ensures H (then g f)

@@ -8,7 +8,7 @@ use lib.ListN.{length, getD, length-append, List·getD-eq-default}
 use lib.Dec.{leb}
 use borrow.Author.Tests.{eq-eqb, leb-true, leb-false}
 use Rattle.language.specs.Refusals.{bytes-after}
-use Rattle.language.specs.Form.{Form, verum}
+use Rattle.language.specs.Form.{Form, verum, falsum}
 use Rattle.language.specs.Rules.{gives, misshapen, table, ruled}
 use Rattle.language.specs.Syntax.{Sheet}
 use Rattle.language.specs.Numbers.{got, groups}
@@ -18,7 +18,7 @@ use Rattle.language.specs.Run.{Derived}
 use Rattle.language.specs.Certificate.{indexOf, records, proofBytes, listing, certificate}
 use Rattle.language.specs.Check.{plain, Certificate, certificate-at, verdict, stands}
 use Rattle.theorems.specs.Demands.{Checks-exactly, nodes, nesting}
-use Rattle.theorems.proofs.Lists.{clash}
+use Rattle.theorems.proofs.Lists.{clash, getD-within}
 use Rattle.theorems.proofs.Members.{_∈_}
 use Rattle.theorems.proofs.Closed.{Small}
 use Rattle.theorems.proofs.Reading.{got-is, got-then, got-check}
@@ -68,12 +68,13 @@ pub record Reads-as (d : Derived) (c : Certificate) : Type 0 where
   pub forms : c .forms ≡ listing d
   pub proof : plain (c .proof) ≡ d .proof
   pub conclusion : c .conclusion ≡ indexOf (d .conclusion) (listing d)
-  pub states : getD (c .forms) (c .conclusion) verum ≡ d .conclusion
+  pub states : getD (c .forms) (c .conclusion) falsum ≡ d .conclusion
 
 pub round-trip : (d : Derived) → Writable d → Regular (d .proof) → (c : Certificate) × Reads-as d c
 unfolding as-read certificate
 round-trip d ok reg =
-    let l = listing d in (
+    let l = listing d in
+    let (low, is) = rw append-nil at (found (d .conclusion) l [] (listing-concludes d)) in (
       as-read l (d .proof) (d .conclusion),
       record {
         read = bytes-read l (d .proof) (d .conclusion) (certificate d) refl (ok .few) (ok .small) (listing-orderly d) (listing-names d)
@@ -81,7 +82,7 @@ round-trip d ok reg =
         forms = refl;
         proof = plain-placed l (d .proof) _;
         conclusion = refl;
-        states = rw append-nil at (found (d .conclusion) l [] (listing-concludes d) .1);
+        states = getD-within l (indexOf (d .conclusion) l) falsum verum low ∙ is;
       },
     )
 
@@ -109,5 +110,5 @@ pub certificate-stands : (s : List ℕ) (S : Sheet) (end : ℕ) (d : Derived) �
 unfolding Checks-exactly
 certificate-stands s S end d e ok proved =
     let (c, r) = round-trip d ok (proves-regular proved) in
-    let states : getD (c .forms) (indexOf (d .conclusion) (listing d)) verum ≡ d .conclusion = rw (← r .conclusion) (r .states) in
+    let states : getD (c .forms) (indexOf (d .conclusion) (listing d)) falsum ≡ d .conclusion = rw (← r .conclusion) (r .states) in
     checks-exactly s (certificate d) S end _ _ e .1 (c, r .read, r .conclusion, rw (r .proof, states) proved, rw (r .proof))

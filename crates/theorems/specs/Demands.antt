@@ -5,7 +5,7 @@ use mathlib.Core.Bool.{true}
 use mathlib.Core.Path.{_≡_}
 use mathlib.Core.Logic.{_↔_}
 use lib.ListN.{length, getD}
-use Rattle.language.specs.Form.{Form, State, holds, holdsAll, verum}
+use Rattle.language.specs.Form.{Form, State, holds, holdsAll, falsum}
 use Rattle.language.specs.Syntax.{Phrase, Sheet}
 use Rattle.language.specs.Numbers.{got}
 use Rattle.language.specs.Read.{sheet}
@@ -13,7 +13,7 @@ use Rattle.language.specs.Plain.{Plain, infer, seq, under, Proves, inferences}
 use Rattle.language.specs.Values.{Val, Env, empty, out}
 use Rattle.language.specs.Run.{Derived, evaluate, deduce}
 use Rattle.language.specs.Derives.{Evaluates, Derives}
-use Rattle.language.specs.Certificate.{certificate, listing, indexOf}
+use Rattle.language.specs.Certificate.{certificate}
 use Rattle.language.specs.Answer.{Answer, answer, accepted}
 use Rattle.language.specs.Check.{verdict, stands, certificate-at, Certificate, plain}
 
@@ -28,6 +28,10 @@ Deduces-exactly =
     (fs : List Phrase) (n : ℕ) (e : Env) (β : List Form) (k w w′ : ℕ) (d : Derived) →
     (deduce fs n e β k w ≡ out d w′) ↔ ((u : ℕ) × Derives fs n e β k d u × (u + w′ ≡ w))
 
+-- the rules derive d in a sheet by work w: its root in its base, with nothing bound, within 64 levels
+abbrev pub Sheet-derives : Sheet → Derived → ℕ → Type 0
+Sheet-derives S d w = Derives (S .phrases) 64 empty (S .base) (S .root) d w
+
 -- an evaluator answers for a sheet's bytes, a budget and room
 abbrev pub Evaluator : Type 0
 Evaluator = List ℕ → ℕ → ℕ → Answer
@@ -38,8 +42,7 @@ abbrev pub Meets-demand-2 : Evaluator → Type 0
 Meets-demand-2 evaluator =
     (s : List ℕ) (S : Sheet) (end budget room : ℕ) (bytes : List ℕ) (w i : ℕ) → sheet s ≡ got S end → budget ≤ 1024 →
     (evaluator s budget room ≡ accepted bytes w i)
-    ↔ ((d : Derived) × Derives (S .phrases) 64 empty (S .base) (S .root) d w × (w ≤ budget) × (bytes ≡ certificate d)
-    × (i ≡ inferences (d .proof)) × (length bytes ≤ room))
+    ↔ ((d : Derived) × Sheet-derives S d w × (w ≤ budget) × (bytes ≡ certificate d) × (i ≡ inferences (d .proof)) × (length bytes ≤ room))
 
 -- the definitions' own answer meets it
 unfoldable pub Accepts-exactly : Type 0
@@ -51,14 +54,14 @@ Checks-exactly =
     (s bytes : List ℕ) (S : Sheet) (end k i : ℕ) → sheet s ≡ got S end →
     (verdict s bytes ≡ stands k i)
     ↔ ((c : Certificate) × (certificate-at bytes ≡ got c (length bytes)) × (c .conclusion ≡ k)
-    × Proves (S .base) (plain (c .proof)) (getD (c .forms) k verum) × (i ≡ inferences (plain (c .proof))))
+    × Proves (S .base) (plain (c .proof)) (getD (c .forms) k falsum) × (i ≡ inferences (plain (c .proof))))
 
 -- what the checker accepts holds in every valve state in which the sheet's base does
 unfoldable pub Stands-true : Type 0
 Stands-true =
     (s bytes : List ℕ) (S : Sheet) (end k i : ℕ) → sheet s ≡ got S end → verdict s bytes ≡ stands k i →
     (c : Certificate) × (certificate-at bytes ≡ got c (length bytes))
-    × ((σ : State) → holdsAll σ (S .base) ≡ true → holds σ (getD (c .forms) k verum) ≡ true)
+    × ((σ : State) → holdsAll σ (S .base) ≡ true → holds σ (getD (c .forms) k falsum) ≡ true)
 
 -- the nodes of a plain proof, and how deep they nest, the outermost counted
 unfoldable pub nodes : Plain → ℕ
@@ -84,7 +87,7 @@ Answers-proved =
     (s : List ℕ) (S : Sheet) (end budget room : ℕ) (bytes : List ℕ) (w i : ℕ) → sheet s ≡ got S end → budget ≤ 1024 →
     answer s budget room ≡ accepted bytes w i →
     (c : Certificate) × (certificate-at bytes ≡ got c (length bytes)) × Inside-limits c
-    × Proves (S .base) (plain (c .proof)) (getD (c .forms) (c .conclusion) verum) × (i ≡ inferences (plain (c .proof)))
+    × Proves (S .base) (plain (c .proof)) (getD (c .forms) (c .conclusion) falsum) × (i ≡ inferences (plain (c .proof)))
     × (verdict s bytes ≡ stands (c .conclusion) i)
 
 -- a sheet with propositions and assumptions appended to their lists
@@ -97,13 +100,30 @@ pub record Longer (S T : Sheet) : Type 0 where
   pub phrases : T .phrases ≡ S .phrases
   pub root : T .root ≡ S .root
 
--- demand 3, over sheets as read: an answer stands for a longer sheet, no less budget and room for its certificate; the certificate checks
--- alone against the longer sheet, and its conclusion holds wherever the longer base does
+-- bytes that read as a certificate, whose listing has p at its conclusion number
+pub record Concludes (bytes : List ℕ) (p : Form) : Type 0 where
+  pub read : Certificate
+  pub reads : certificate-at bytes ≡ got read (length bytes)
+  pub states : getD (read .forms) (read .conclusion) falsum ≡ p
+
+-- what stands of an answer to a sheet S for a sheet T of bytes t, a budget and room
+pub record Stands-for (S T : Sheet) (t : List ℕ) (budget room : ℕ) (bytes : List ℕ) (w i : ℕ) : Type 0 where
+  -- the rules derive the same in both, by the same work
+  pub derived : Derived
+  pub here : Sheet-derives S derived w
+  pub there : Sheet-derives T derived w
+  -- the answer is the same, and its bytes are the certificate of what was derived
+  pub answers : answer t budget room ≡ accepted bytes w i
+  pub written : bytes ≡ certificate derived
+  -- what the certificate concludes is what was derived; checked alone against T it stands
+  pub concludes : Concludes bytes (derived .conclusion)
+  pub checks : verdict t bytes ≡ stands (concludes .read .conclusion) i
+  -- and it is true in every valve state that makes all of T's assumptions true
+  pub holding : (σ : State) → holdsAll σ (T .base) ≡ true → holds σ (derived .conclusion) ≡ true
+
+-- demand 3, over sheets as read: an answer stands for a longer sheet, no less budget and room for its certificate
 unfoldable pub Answers-stand-as-read : Type 0
 Answers-stand-as-read =
     (s t : List ℕ) (S T : Sheet) (end end′ b b′ room room′ w i : ℕ) (bytes : List ℕ) →
     sheet s ≡ got S end → sheet t ≡ got T end′ → Longer S T → b ≤ b′ → b′ ≤ 1024 → length bytes ≤ room′ →
-    answer s b room ≡ accepted bytes w i →
-    (d : Derived) × (bytes ≡ certificate d) × (answer t b′ room′ ≡ accepted bytes w i)
-    × (verdict t bytes ≡ stands (indexOf (d .conclusion) (listing d)) i)
-    × ((σ : State) → holdsAll σ (T .base) ≡ true → holds σ (d .conclusion) ≡ true)
+    answer s b room ≡ accepted bytes w i → Stands-for S T t b′ room′ bytes w i

@@ -1,17 +1,14 @@
 -- How a sheet's bytes grow: counts changed, records of propositions and members of the base appended, the rest as it was.
 use Prim.Native.Nat.{ℕ, _+_, _≤_}
 use mathlib.Core.List.{List, [], _++_}
-use mathlib.Core.Bool.{true}
 use mathlib.Core.Path.{_≡_}
 use lib.ListN.{length}
-use Rattle.language.specs.Form.{Form, State, holds, holdsAll}
+use Rattle.language.specs.Form.{Form}
 use Rattle.language.specs.Syntax.{Pattern, Phrase, Sheet}
 use Rattle.language.specs.Numbers.{Got, got, then, from, times}
 use Rattle.language.specs.Read.{reference, proposition, pattern, phrase, deduRef}
-use Rattle.language.specs.Run.{Derived}
-use Rattle.language.specs.Certificate.{certificate, listing, indexOf}
 use Rattle.language.specs.Answer.{answer, accepted}
-use Rattle.language.specs.Check.{verdict, stands}
+use Rattle.theorems.specs.Demands.{Stands-for}
 
 -- the bytes xs, which follow the bytes `before` in s, are what the reader R reads as v
 pub record Piece {A : Type 0} (R : List ℕ → ℕ → Got A) (s before xs : List ℕ) (v : A) : Type 0 where
@@ -56,12 +53,8 @@ pub record Grown {s t : List ℕ} {S T : Sheet} (p : Parts s S) (q : Parts t T) 
   pub base : q .base ≡ p .base ++ base-bytes
   pub root : q .root ≡ p .root
 
--- demand 3, over bytes: an answer stands for a grown sheet, no less budget and room for its certificate; the certificate checks alone
--- against the grown sheet, and its conclusion is true in every valve state that makes all of the grown sheet's assumptions true
+-- demand 3, over bytes: an answer stands for a grown sheet, no less budget and room for its certificate
 unfoldable pub Answers-stand : Type 0
 Answers-stand =
     (s t : List ℕ) (S T : Sheet) (p : Parts s S) (q : Parts t T) (b b′ room room′ w i : ℕ) (bytes : List ℕ) →
-    Grown p q → b ≤ b′ → b′ ≤ 1024 → length bytes ≤ room′ → answer s b room ≡ accepted bytes w i →
-    (d : Derived) × (bytes ≡ certificate d) × (answer t b′ room′ ≡ accepted bytes w i)
-    × (verdict t bytes ≡ stands (indexOf (d .conclusion) (listing d)) i)
-    × ((σ : State) → holdsAll σ (T .base) ≡ true → holds σ (d .conclusion) ≡ true)
+    Grown p q → b ≤ b′ → b′ ≤ 1024 → length bytes ≤ room′ → answer s b room ≡ accepted bytes w i → Stands-for S T t b′ room′ bytes w i

@@ -6,13 +6,14 @@ ghost use mathlib.Core.List.{[], _∷_};
 ghost use Prim.Native.Nat.{_+_, _<_, _≤_, _^_};
 ghost use lib.ListN.{length};
 ghost use lib.Seq.{sets};
+use language::node;
 
 // The 1 before two proofs.
 pub fn sequence(t: &mut [u32], n: usize) -> usize
     requires { ⌜ n + 1 ≤ length (now t) ⌝ }
     ensures { λ r. ⌜ (r ≡ n + 1) × (now (t .exit) ≡ sets (now (t .entry)) n (1 ∷ [])) ⌝ }
 {
-    words::put(t, n, 1);
+    words::put(t, n, node::SEQUENCE);
     n + 1
 }
 
@@ -21,7 +22,7 @@ pub fn hypothesis(t: &mut [u32], n: usize, p: usize) -> usize
     requires { ⌜ (n + 2 ≤ length (now t)) × (p < 2 ^ 32) ⌝ }
     ensures { λ r. ⌜ (r ≡ n + 2) × (now (t .exit) ≡ sets (now (t .entry)) n (2 ∷ p ∷ [])) ⌝ }
 {
-    words::put2(t, n, 2, p);
+    words::put2(t, n, node::HYPOTHESIS, p);
     n + 2
 }
 
@@ -30,7 +31,7 @@ pub fn rule(t: &mut [u32], n: usize, r: usize, count: usize, x: usize, y: usize,
     requires { ⌜ (n + 5 ≤ length (now t)) × (count ≤ 3) × (r < 2 ^ 32) × (x < 2 ^ 32) × (y < 2 ^ 32) × (z < 2 ^ 32) ⌝ }
     ensures { λ m. ⌜ (m ≡ n + 2 + count) × (now (t .exit) ≡ sets (now (t .entry)) n (0 ∷ r ∷ x ∷ y ∷ z ∷ [])) ⌝ }
 {
-    words::put4(t, n, 0, r, x, y);
+    words::put4(t, n, node::RULE, r, x, y);
     words::put(t, n + 4, z);
     n + 2 + count
 }

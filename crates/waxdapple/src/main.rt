@@ -1,27 +1,38 @@
 // The command's program: requests in, answers in words out. A request is a line and the bytes of the files that it announces, one after another:
 //     KIND FORM LENGTH FORM LENGTH BUDGET PRINT KEEP \n SHEET CERTIFICATE
 // each field ended by a blank. KIND is E, evaluate, or C, check. A FORM is b, bytes as they are, or t, bytes in decimal; a LENGTH is that of the file.
-// An evaluation has a certificate's file of no bytes; a check has budget 0. PRINT is d where the certificate is to be printed in decimal.
+// An evaluation has a certificate's file of no bytes; a check has budget 0. PRINT is d where an accepted certificate is to be printed in decimal.
 // KEEP is b or t where an accepted evaluation's certificate is to be written to descriptor 3, as bytes or in decimal. Any other letter asks for neither.
+// A file may be of any length: it is read piece by piece, and its front decides. A text is read to its end, so that a fault in it is found wherever it is.
 // This program only reads, calls and writes; every answer's words are of the crate `wording`.
+ghost use Prim.Native.Nat.{_≤_};
 ghost use mathlib.Core.Path.{_≡_};
 ghost use lib.ListN.{length};
 use language::Checked;
 use language::Evaluated;
+use language::refusal;
 use libc::STDOUT_FILENO;
 use reader::SheetRead;
+use records::rows;
 use requests::Decimal;
 use wording::Decoded;
+use wording::Reading;
 
-// No sheet that reads is longer (`longest-sheet` of `theorems`).
-const SHEET: usize = 12297;
+// The front of a sheet that decides: no sheet that reads is longer than 12,297 bytes (`longest-sheet` of `theorems`), and ten bytes more are shown
+// around a place (`around-front` of `wording`).
+const SHEET: usize = 12307;
 
-// No certificate that reads is longer (`longest-certificate`), and none of an evaluation (`longest-accepted`).
-const CERTIFICATE: usize = 80388;
+// The front of a certificate: none that reads is longer than 80,388 bytes (`longest-certificate`), none of an evaluation is (`longest-accepted`).
+const CERTIFICATE: usize = 80398;
 
-// The longest file that is taken: two of them and a line are no more than is read. Every sheet and every certificate is shorter, also in decimal with one
-// blank after each byte.
-const FILE: usize = 327000;
+// What is read at once: the length of `io::large_buffer`.
+const PIECE: usize = 65536;
+
+// A request's line is no longer.
+const LINE: usize = 128;
+
+// An answer in words is no longer.
+const PAGE: usize = 4096;
 
 // Where a certificate that is to be kept goes.
 const KEPT: i32 = 3;
@@ -29,167 +40,230 @@ const KEPT: i32 = 3;
 // The largest number of 64 bits.
 const LARGEST: usize = 18446744073709551615;
 
-// What is asked, and where the files begin.
+// What is asked.
 struct Request {
-    kind: usize,
-    sheet_form: usize,
+    kind: u8,
+    sheet_form: u8,
     sheet: usize,
-    certificate_form: usize,
+    certificate_form: u8,
     certificate: usize,
     budget: usize,
-    print: usize,
-    keep: usize,
-    from: usize,
+    print: u8,
+    keep: u8,
+}
+
+// A file of which so much is left to read.
+struct Rest {
+    reading: Reading,
+    left: usize,
+}
+
+// A file read whole; or the input ends before it does.
+enum File {
+    Whole(Reading),
+    Short,
+}
+
+// A byte of the input, or its end.
+enum Next {
+    Byte(u8),
+    End,
 }
 
 fn main() {
-    let mut input = buffer();
-    let n = io::read_full(0, &mut input);
-    answer_all(&input[..n]);
-}
-
-// Each request in turn.
-fn answer_all(input: &[u8]) {
-    let mut at = 0;
-    while at < input.len() {
-        let next = answer(input, at);
-        if next <= at {
+    let mut turns = LARGEST;
+    while 0 < turns {
+        if answer() {
+            turns -= 1;
+        } else {
             return;
         }
-        at = next;
     }
 }
 
-// The request at a place; the answer is the place past it.
-fn answer(input: &[u8], at: usize) -> usize {
-    let r = asked(input, at);
-    if FILE < r.sheet {
-        return stopped(0, SHEET, input.len());
+// The next request; whether another may follow.
+fn answer() -> bool {
+    let mut line = [0u8; LINE];
+    if read_line(&mut line) {
+        return answered(asked(&line));
     }
-    if FILE < r.certificate {
-        return stopped(1, CERTIFICATE, input.len());
-    }
-    let from = r.from;
-    if input.len() < from {
-        return stopped(4, 0, input.len());
-    }
-    if input.len() - from < r.sheet + r.certificate {
-        return stopped(4, 0, input.len());
-    }
-    let middle = from + r.sheet;
-    let end = middle + r.certificate;
-    with_sheet(&input[from..middle], &input[middle..end], r);
-    end
+    false
 }
 
-// What is asked by the line at a place.
-fn asked(input: &[u8], at: usize) -> Request {
-    let sheet_form = next(input, at);
-    let sheet = next(input, sheet_form);
-    let certificate_form = next(input, sheet);
-    let certificate = next(input, certificate_form);
-    let budget = next(input, certificate);
-    let print = next(input, budget);
-    let keep = next(input, print);
-    let end = next(input, keep);
+// A line of the input without its end; whether there is one.
+fn read_line(line: &mut [u8]) -> bool {
+    let mut n = 0;
+    while n < line.len() {
+        match next_byte() {
+            Next::Byte(c) => {
+                if c == b'\n' {
+                    return true;
+                }
+                line[n] = c;
+            }
+            Next::End => {
+                return 0 < n;
+            }
+        }
+        n += 1;
+    }
+    true
+}
+
+// The next byte.
+fn next_byte() -> Next {
+    let mut c = [0u8; 1];
+    let n = io::read_full(0, &mut c);
+    if n == 0 { Next::End } else { Next::Byte(c[0]) }
+}
+
+// What a line asks.
+fn asked(line: &[u8]) -> Request {
+    let sheet_form = past_field(line, 0);
+    let sheet = past_field(line, sheet_form);
+    let certificate_form = past_field(line, sheet);
+    let certificate = past_field(line, certificate_form);
+    let budget = past_field(line, certificate);
+    let print = past_field(line, budget);
+    let keep = past_field(line, print);
     Request {
-        kind: letter(input, at),
-        sheet_form: letter(input, sheet_form),
-        sheet: number(input, sheet),
-        certificate_form: letter(input, certificate_form),
-        certificate: number(input, certificate),
-        budget: number(input, budget),
-        print: letter(input, print),
-        keep: letter(input, keep),
-        from: past(input, end),
+        kind: letter(line, 0),
+        sheet_form: letter(line, sheet_form),
+        sheet: number(line, sheet),
+        certificate_form: letter(line, certificate_form),
+        certificate: number(line, certificate),
+        budget: number(line, budget),
+        print: letter(line, print),
+        keep: letter(line, keep),
     }
 }
 
-// The place past the field at a place and its blank; past the input where there is none.
-fn next(input: &[u8], at: usize) -> usize {
-    past(input, requests::field_end(input, at))
+// The place past the field at a place and its blank; past the line where there is none.
+fn past_field(line: &[u8], at: usize) -> usize {
+    let end = requests::field_end(line, at);
+    if end < line.len() { end + 1 } else { LARGEST }
 }
 
-// The next place; past the input where there is none.
-fn past(input: &[u8], at: usize) -> usize {
-    if at < input.len() { at + 1 } else { LARGEST }
-}
-
-// A letter; 0 past the input.
-fn letter(input: &[u8], at: usize) -> usize {
-    if at < input.len() { wide(input[at]) } else { 0 }
+// A letter; 0 past the line.
+fn letter(line: &[u8], at: usize) -> u8 {
+    if at < line.len() { line[at] } else { 0 }
 }
 
 // The number of the field at a place; the largest one where it is no number of 64 bits.
-fn number(input: &[u8], at: usize) -> usize {
-    match requests::read_decimal(input, at, requests::field_end(input, at)) {
+fn number(line: &[u8], at: usize) -> usize {
+    match requests::read_decimal(line, at, requests::field_end(line, at)) {
         Decimal::Number(n) => n,
         Decimal::Malformed => LARGEST,
     }
 }
 
-// The request with its sheet's bytes.
-fn with_sheet(sheet: &[u8], certificate: &[u8], r: Request) {
-    let mut bytes = [0u8; SHEET];
-    if r.sheet_form == 116 {
-        match wording::read_decimal(&mut bytes, sheet) {
-            Decoded::Bytes(n) => {
-                if n <= SHEET {
-                    with_certificate(&bytes[..n], certificate, r);
-                }
-            }
-            Decoded::Wrong(place) => trouble(2, place),
-            Decoded::Long => trouble(0, SHEET),
+// The request with its files, both read before either is looked at; whether another may follow.
+fn answered(r: Request) -> bool {
+    let mut sheet = [0u8; SHEET];
+    let mut certificate = [0u8; CERTIFICATE];
+    let File::Whole(s) = read_file(&mut sheet, r.sheet_form, r.sheet) else {
+        return cut_short();
+    };
+    let File::Whole(c) = read_file(&mut certificate, r.certificate_form, r.certificate) else {
+        return cut_short();
+    };
+    let in_sheet = s.said;
+    if faulty(in_sheet, wording::STRAY_IN_SHEET, wording::OVER_IN_SHEET) {
+        return true;
+    }
+    let in_certificate = c.said;
+    if faulty(
+        in_certificate,
+        wording::STRAY_IN_CERTIFICATE,
+        wording::OVER_IN_CERTIFICATE,
+    ) {
+        return true;
+    }
+    let n = s.bytes;
+    let m = c.bytes;
+    if n <= SHEET {
+        if m <= CERTIFICATE {
+            with_both(&sheet[..n], &certificate[..m], r);
         }
-        return;
     }
-    if SHEET < sheet.len() {
-        return trouble(0, SHEET);
-    }
-    with_certificate(sheet, certificate, r)
+    true
 }
 
-// The request with its certificate's bytes.
-fn with_certificate(sheet: &[u8], certificate: &[u8], r: Request) {
-    let mut bytes = [0u8; CERTIFICATE];
-    if r.certificate_form == 116 {
-        match wording::read_decimal(&mut bytes, certificate) {
-            Decoded::Bytes(n) => {
-                if n <= CERTIFICATE {
-                    with_both(sheet, &bytes[..n], r);
-                }
-            }
-            Decoded::Wrong(place) => trouble(3, place),
-            Decoded::Long => trouble(1, CERTIFICATE),
+// A file of so many bytes: its front, as far as out goes. White space after it ends a text's last number.
+fn read_file(out: &mut [u8], form: u8, long: usize) -> File {
+    let mut reading = wording::unread();
+    let mut left = long;
+    while 0 < left {
+        let rest = read_piece(out, form, reading, left);
+        if left <= rest.left {
+            return File::Short;
         }
-        return;
+        left = rest.left;
+        let read = rest.reading;
+        reading = read;
     }
-    if CERTIFICATE < certificate.len() {
-        return trouble(1, CERTIFICATE);
+    File::Whole(wording::read_decimal(out, reading, b" "))
+}
+
+// The next piece of a file; nothing less is left where the input has ended.
+fn read_piece(out: &mut [u8], form: u8, reading: Reading, left: usize) -> Rest {
+    let mut bytes = io::large_buffer();
+    let most = least(left, PIECE);
+    let n = io::read_full(0, &mut bytes[..most]);
+    if left < n {
+        return Rest { reading, left };
     }
-    with_both(sheet, certificate, r)
+    Rest {
+        reading: taken(out, form, reading, &bytes[..n]),
+        left: left - n,
+    }
+}
+
+// A piece of a file, as bytes or in decimal.
+fn taken(out: &mut [u8], form: u8, reading: Reading, bytes: &[u8]) -> Reading {
+    if form == b't' {
+        return wording::read_decimal(out, reading, bytes);
+    }
+    let said = reading.said;
+    let n = wording::copy(out, reading.bytes, bytes);
+    Reading { said, bytes: n }
+}
+
+// Whether a text has a fault, which is then said.
+fn faulty(said: Decoded, stray: usize, over: usize) -> bool {
+    match said {
+        Decoded::Bytes(scan) => false,
+        Decoded::Stray(line, column) => {
+            trouble(stray, line, column);
+            true
+        }
+        Decoded::Over(line, column) => {
+            trouble(over, line, column);
+            true
+        }
+    }
 }
 
 // The request with all its bytes.
 fn with_both(sheet: &[u8], certificate: &[u8], r: Request) {
-    if r.kind == 69 {
-        return evaluate(sheet, r.budget, r.print == 100, r.keep);
+    if r.kind == b'E' {
+        return evaluate(sheet, r.budget, r.print == b'd', r.keep);
     }
-    if r.kind == 67 {
-        return check(sheet, certificate, r.print == 100);
+    if r.kind == b'C' {
+        return check(sheet, certificate, r.print == b'd');
     }
-    trouble(4, 0)
+    trouble(wording::NO_REQUEST, 0, 0)
 }
 
 // The evaluation of a sheet.
-fn evaluate(sheet: &[u8], budget: usize, print: bool, keep: usize) {
-    let mut listing = [0u32; 9220];
-    let mut forms = [0u32; 4610];
-    let mut patterns = [0u32; 640];
-    let mut phrases = [0u32; 6144];
-    let mut base = [0u32; 1088];
-    let mut binds = [0u32; 16384];
-    let mut tokens = [0u32; 11264];
+fn evaluate(sheet: &[u8], budget: usize, print: bool, keep: u8) {
+    let mut listing = [0u32; evaluator::LISTING];
+    let mut forms = [0u32; evaluator::FORMS];
+    let mut patterns = [0u32; evaluator::PATTERNS];
+    let mut phrases = [0u32; evaluator::PHRASES];
+    let mut base = [0u32; evaluator::BASE];
+    let mut binds = [0u32; evaluator::BINDINGS];
+    let mut tokens = [0u32; evaluator::TOKENS];
     let mut out = [0u8; CERTIFICATE];
     let evaluated = evaluator::evaluate(
         sheet,
@@ -207,14 +281,13 @@ fn evaluate(sheet: &[u8], budget: usize, print: bool, keep: usize) {
 }
 
 // What an evaluation answered, with the certificate that it wrote.
-fn told_evaluation(sheet: &[u8], out: &[u8], evaluated: Evaluated, print: bool, keep: usize) {
-    let mut page = [0u8; 4096];
+fn told_evaluation(sheet: &[u8], out: &[u8], evaluated: Evaluated, print: bool, keep: u8) {
+    let mut page = [0u8; PAGE];
     match evaluated {
         Evaluated::Accepted(long, work, inferences) => {
-            let n = wording::accepted(&mut page, 0, long, work.0, inferences.0);
-            say(STDOUT_FILENO, &page, n);
+            let n = wording::accepted(&mut page, 0, long, work, inferences);
             if long <= out.len() {
-                given(&out[..long], print, keep);
+                told_accepted(&page, n, &out[..long], print, keep);
             }
         }
         Evaluated::Refused(why, place) => {
@@ -225,23 +298,33 @@ fn told_evaluation(sheet: &[u8], out: &[u8], evaluated: Evaluated, print: bool, 
     }
 }
 
-// A certificate printed and kept, as asked.
-fn given(certificate: &[u8], print: bool, keep: usize) {
-    if print {
-        in_decimal(STDOUT_FILENO, certificate);
+// An accepted evaluation, said where its certificate is kept as asked; and printed as asked.
+fn told_accepted(page: &[u8], n: usize, certificate: &[u8], print: bool, keep: u8) {
+    if is_kept(certificate, keep) {
+        say(STDOUT_FILENO, page, n);
+        if print {
+            in_decimal(STDOUT_FILENO, certificate);
+        }
+        return;
     }
-    if keep == 98 {
-        io::write_all(KEPT, certificate);
+    trouble(wording::UNKEPT, 0, 0)
+}
+
+// Whether a certificate is kept, as asked.
+fn is_kept(certificate: &[u8], keep: u8) -> bool {
+    if keep == b'b' {
+        return io::write_all(KEPT, certificate);
     }
-    if keep == 116 {
-        in_decimal(KEPT, certificate);
+    if keep == b't' {
+        return in_decimal(KEPT, certificate);
     }
+    true
 }
 
 // The phrase that a refusal is about, where it is about one.
 fn in_phrase(sheet: &[u8], why: usize, place: usize) {
-    if 8 <= why {
-        if why <= 17 {
+    if refusal::BUDGET_SPENT <= why {
+        if why <= refusal::NO_CLAUSE {
             phrase(sheet, place);
         }
     }
@@ -249,11 +332,11 @@ fn in_phrase(sheet: &[u8], why: usize, place: usize) {
 
 // A phrase of a sheet.
 fn phrase(sheet: &[u8], k: usize) {
-    let mut names = [0u32; 512];
-    let mut forms = [0u32; 514];
-    let mut patterns = [0u32; 640];
-    let mut phrases = [0u32; 6144];
-    let mut base = [0u32; 64];
+    let mut names = [0u32; reader::NAMES];
+    let mut forms = [0u32; reader::FORMS];
+    let mut patterns = [0u32; reader::PATTERNS];
+    let mut phrases = [0u32; reader::PHRASES];
+    let mut base = [0u32; reader::BASE];
     match reader::read_sheet(
         &mut names,
         &mut forms,
@@ -269,13 +352,13 @@ fn phrase(sheet: &[u8], k: usize) {
 
 // The phrase whose row is the k-th, over so many names.
 fn row(names: &[u32], phrases: &[u32], props: usize, k: usize) {
-    let mut page = [0u8; 4096];
+    let mut page = [0u8; PAGE];
     if names.len() < props {
         return;
     }
-    if k < phrases.len() / 12 {
-        let from = 12 * k;
-        let to = from + 12;
+    if k < phrases.len() / rows::PHRASE {
+        let from = rows::PHRASE * k;
+        let to = from + rows::PHRASE;
         let n = wording::at_phrase(&mut page, 0, &phrases[from..to], &names[..props], k);
         say(STDOUT_FILENO, &page, n);
     }
@@ -283,11 +366,11 @@ fn row(names: &[u32], phrases: &[u32], props: usize, k: usize) {
 
 // The check of a certificate.
 fn check(sheet: &[u8], certificate: &[u8], print: bool) {
-    let mut names = [0u32; 4608];
-    let mut forms = [0u32; 12290];
-    let mut patterns = [0u32; 640];
-    let mut phrases = [0u32; 6144];
-    let mut base = [0u32; 576];
+    let mut names = [0u32; checker::NAMES];
+    let mut forms = [0u32; checker::FORMS];
+    let mut patterns = [0u32; checker::PATTERNS];
+    let mut phrases = [0u32; checker::PHRASES];
+    let mut base = [0u32; checker::BASE];
     let checked = checker::check(
         sheet,
         certificate,
@@ -297,19 +380,19 @@ fn check(sheet: &[u8], certificate: &[u8], print: bool) {
         &mut phrases,
         &mut base,
     );
-    told(sheet, certificate, checked);
-    if print {
-        in_decimal(STDOUT_FILENO, certificate);
-    }
+    told(sheet, certificate, checked, print)
 }
 
-// What a check answered.
-fn told(sheet: &[u8], certificate: &[u8], checked: Checked) {
-    let mut page = [0u8; 4096];
+// What a check answered; a certificate that stands is printed as asked.
+fn told(sheet: &[u8], certificate: &[u8], checked: Checked, print: bool) {
+    let mut page = [0u8; PAGE];
     match checked {
         Checked::Stands(conclusion, inferences) => {
-            let n = wording::stands(&mut page, 0, certificate.len(), conclusion, inferences.0);
+            let n = wording::stands(&mut page, 0, certificate.len(), conclusion, inferences);
             say(STDOUT_FILENO, &page, n);
+            if print {
+                in_decimal(STDOUT_FILENO, certificate);
+            }
         }
         Checked::Falls(why, place) => {
             let n = wording::falls(&mut page, 0, sheet, certificate, why, place);
@@ -318,41 +401,44 @@ fn told(sheet: &[u8], certificate: &[u8], checked: Checked) {
     }
 }
 
-// A certificate's bytes in decimal.
-fn in_decimal(to: i32, certificate: &[u8]) {
+// A certificate's bytes in decimal; whether they could be written.
+fn in_decimal(to: i32, certificate: &[u8]) -> bool {
     let mut page = buffer();
     let n = wording::in_decimal(&mut page, 0, certificate);
-    say(to, &page, n);
+    say(to, &page, n)
 }
 
-// What keeps a request from being answered; the answer is a place.
-fn stopped(which: usize, n: usize, end: usize) -> usize {
-    trouble(which, n);
-    end
+// The input ends within a request; no other follows.
+fn cut_short() -> bool {
+    trouble(wording::NO_REQUEST, 0, 0);
+    false
 }
 
 // What keeps a request from being answered.
-fn trouble(which: usize, n: usize) {
-    let mut page = [0u8; 4096];
-    let long = wording::trouble(&mut page, 0, which, n);
-    say(STDOUT_FILENO, &page, long);
+fn trouble(which: usize, line: usize, column: usize) {
+    let mut page = [0u8; PAGE];
+    let n = wording::trouble(&mut page, 0, which, line, column);
+    say(STDOUT_FILENO, &page, n);
 }
 
-// The first n characters of a page.
-fn say(to: i32, page: &[u8], n: usize) {
+// The first n characters of a page; whether they could be written.
+fn say(to: i32, page: &[u8], n: usize) -> bool {
     if n <= page.len() {
-        io::write_all(to, &page[..n]);
+        return io::write_all(to, &page[..n]);
     }
+    false
 }
 
-// Zeros, for all that is read, and for a certificate in decimal, four characters to a byte. The contract is what lending the array needs.
-fn buffer() -> [u8; 655360]
-    ensures { λ r. ⌜ 655360 ≡ length r ⌝ }
+// Zeros, for a certificate in decimal, four characters to a byte. The contract is what lending the array needs.
+fn buffer() -> [u8; 321592]
+    ensures { λ r. ⌜ 321592 ≡ length r ⌝ }
 {
-    [0; 655360]
+    [0; 321592]
 }
 
-// A character's number.
-fn wide(c: u8) -> usize {
-    c as usize
+// The smaller of two numbers.
+fn least(n: usize, m: usize) -> usize
+    ensures { λ r. ⌜ (r ≤ n) × (r ≤ m) ⌝ }
+{
+    if n < m { n } else { m }
 }

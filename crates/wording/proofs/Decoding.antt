@@ -1,181 +1,83 @@
--- Decimal bytes read character by character: the answer from the start is the answer from here, and what was read stands at the front.
-use Prim.Native.Nat.{ℕ, _+_, _-_, _≤_, _<_}
-use native.Mathlib.Omega.{arith}
+-- Decimal bytes read character by character: what the text says from the start is what it says from here on, and so is what is written on the page.
+use Prim.Native.Nat.{ℕ, _+_, _≤_, _<_}
 use native.Mathlib.Numerals.{add-one}
 use mathlib.Core.Path.{_≡_, refl, sym, ap, _∙_}
-use mathlib.Core.List.{List, [], _∷_, _++_}
-use mathlib.Core.Bool.{Bool, true, false}
-use lib.ListN.{length, getD, drop, length-append, drop-of-length-le, List·getD-append}
-use lib.Seq.{drop-cons, sets, getD-append-seam}
-use lib.Dec.{ltb, leb, eqb}
-use borrow.Author.Tests.{le-leb, lt-leb, eq-eqb, ne-eqb, ltb-true}
-use Rattle.words.specs.Front.{front}
-use Rattle.words.proofs.Runs.{front-run}
-use Rattle.wording.specs.Page.{pick}
-use Rattle.wording.specs.declared.Decoded.the-variants.{Bytes, Wrong, Long}
-use Rattle.wording.specs.declared.decimals.Step.{Step}
-use Rattle.wording.specs.declared.decimals.Step.the-variants as step
-use Rattle.wording.specs.Decimals.{white, grown, Turn, on, wrong, full, ended, digit, other, turn, Reading, turned, scan, decoded, Reads, more, stepOf}
+use mathlib.Core.List.{List, [], _∷_, _++_, append-assoc}
+use lib.ListN.{length, getD, drop, drop-of-length-le}
+use lib.Seq.{drop-cons}
+use Rattle.wording.specs.Page.{Page, page, write}
+use Rattle.wording.specs.declared.Reading.{Reading}
+use Rattle.wording.specs.declared.Decoded.{Decoded}
+use Rattle.wording.specs.Decimals.{next, ends, heard, spoken, Reads}
+use Rattle.wording.proofs.Writing.{write-append}
 
--- white space, by the tests on the way
-module _ (room : Bool) (n v : ℕ) where
-  pub ended-none : v ≡ 0 → ended room v ≡ on 0 []
-  unfolding ended pick
-  ended-none e = rw (eq-eqb v 0 e)
+-- two pieces one after another are read as one
+pub heard-append : (xs ys : List ℕ) (d : Decoded) → heard (xs ++ ys) d ≡ heard ys (heard xs d)
+unfolding heard
+heard-append [] ys d = refl
+heard-append (x ∷ xs) ys d = heard-append xs ys (next x d)
 
-  pub ended-some : (v ≡ 0 → ⊥) → room ≡ true → ended room v ≡ on 0 ((v - 1) ∷ [])
-  unfolding ended pick
-  ended-some e r = rw (ne-eqb v 0 e, r)
+pub spoken-append : (xs ys : List ℕ) (d : Decoded) → spoken (xs ++ ys) d ≡ spoken xs d ++ spoken ys (heard xs d)
+unfolding heard spoken
+spoken-append [] ys d = refl
+spoken-append (x ∷ xs) ys d =
+    ap (λ (l : List ℕ). ends x d ++ l) (spoken-append xs ys (next x d)) ∙ sym (append-assoc (ends x d) (spoken xs (next x d)) (spoken ys (heard xs (next x d))))
 
-  pub ended-full : (v ≡ 0 → ⊥) → room ≡ false → ended room v ≡ full
-  unfolding ended pick
-  ended-full e r = rw (ne-eqb v 0 e, r)
+pub reads-append : (xs ys : List ℕ) (x y z : Reading) (t₀ t₁ t₂ : List ℕ) → Reads xs x y t₀ t₁ → Reads ys y z t₁ t₂ → Reads (xs ++ ys) x z t₀ t₂
+reads-append xs ys x y z t₀ t₁ t₂ a b =
+    record {
+      answer = b .answer ∙ ap (heard ys) (a .answer) ∙ sym (heard-append xs ys (x .said));
+      bytes =
+          b .bytes
+          ∙ ap (λ (d : Decoded). write (spoken ys d) (page t₁ (y .bytes))) (a .answer)
+          ∙ ap (write (spoken ys (heard xs (x .said)))) (a .bytes)
+          ∙ sym (write-append (spoken xs (x .said)) (spoken ys (heard xs (x .said))) (page t₀ (x .bytes)))
+          ∙ ap (λ (l : List ℕ). write l (page t₀ (x .bytes))) (sym (spoken-append xs ys (x .said)));
+    }
 
--- a digit, by the test on the way
-module _ (n v c w : ℕ) (e : w ≡ grown v c) where
-  pub digit-fits : w ≤ 256 → step.On w n ≡ stepOf n (digit v c)
-  unfolding digit stepOf pick
-  digit-fits l = let z : n ≡ n + 0 = omega arith in rw (← e, le-leb w 256 l) (ap (step.On w) z)
-
-  pub digit-large : 256 < w → step.Wrong ≡ stepOf n (digit v c)
-  unfolding digit stepOf pick
-  digit-large l = rw (← e, lt-leb w 256 l)
-
--- no digit ends a byte
-none-more : (v c : ℕ) → more (other v c) ≡ []
-unfolding other digit more
-none-more v c = go (leb 48 c) (leb c 57) (leb (grown v c) 256)
+-- two readings of a piece are the same, and so are the pages
+pub reads-once : (piece : List ℕ) (x r r′ : Reading) (t₀ t t′ : List ℕ) → Reads piece x r t₀ t → Reads piece x r′ t₀ t′ → (r ≡ r′) × (t ≡ t′)
+reads-once piece x r r′ t₀ t t′ a b =
+    let p = a .bytes ∙ sym (b .bytes) in
+    (reading-by (r .said) (r′ .said) (r .bytes) (r′ .bytes) (a .answer ∙ sym (b .answer)) (ap (λ (q : Page). q .used) p), ap (λ (q : Page). q .text) p)
   where
-    go : (x y z : Bool) → more (pick x (pick y (pick z (on (grown v c) []) wrong) wrong) wrong) ≡ []
-    go true true true = refl
-    go true true false = refl
-    go true false z = refl
-    go false y z = refl
+    reading-by : (d d′ : Decoded) (n n′ : ℕ) → d ≡ d′ → n ≡ n′ → _≡_ {A = Reading} (record { said = d; bytes = n }) (record { said = d′; bytes = n′ })
+    reading-by d d′ n n′ e f = rw (e, f)
 
--- a turn, by whether the character is white
-module _ (room : Bool) (n v c : ℕ) (t t′ : List ℕ) (r : Step) where
-  pub turn-white : white c ≡ true → r ≡ stepOf n (ended room v) → t′ ≡ sets t n (more (ended room v)) → (r ≡ stepOf n (turn room v c)) × (t′ ≡ sets t n (more (turn room v c)))
-  unfolding turn pick
-  turn-white w e f = (rw w e, rw w f)
-
-  pub turn-other : white c ≡ false → r ≡ stepOf n (other v c) → t′ ≡ t → (r ≡ stepOf n (turn room v c)) × (t′ ≡ sets t n (more (turn room v c)))
-  unfolding turn pick
-  turn-other w e f = (rw w e, rw (w, none-more v c) f)
-
--- a byte is ended only where there is room
-more-fits : (n l v c : ℕ) → n ≤ l → n + length (more (turn (ltb n l) v c)) ≤ l
-unfolding turn ended more
-more-fits n l v c h = go (white c) (eqb v 0) (ltb n l) refl
-  where
-    go : (x y z : Bool) → ltb n l ≡ z → n + length (more (pick x (pick y (on 0 []) (pick z (on 0 ((v - 1) ∷ [])) full)) (other v c))) ≤ l
-    go true true z e = omega arith
-    go true false true e = let k = ltb-true n l e in omega arith
-    go true false false e = omega arith
-    go false y z e = rw (none-more v c) (omega arith)
-
--- what a step says of its turn
-step-on : (T : Turn) (n w m : ℕ) → step.On w m ≡ stepOf n T → (T ≡ on w (more T)) × (m ≡ n + length (more T))
-unfolding stepOf more
-step-on (on v bs) n w m e = (ap (λ (x : ℕ). on x bs) (sym (let z : w ≡ v = cc in z)), cc)
-step-on wrong n w m e = absurd (let z : _≡_ {A = ℕ} 0 1 = cc in omega arith)
-step-on full n w m e = absurd (let z : _≡_ {A = ℕ} 0 1 = cc in omega arith)
-
-step-wrong : (T : Turn) (n : ℕ) → step.Wrong ≡ stepOf n T → T ≡ wrong
-unfolding stepOf
-step-wrong (on v bs) n e = absurd (let z : _≡_ {A = ℕ} 0 1 = cc in omega arith)
-step-wrong wrong n e = refl
-step-wrong full n e = absurd (let z : _≡_ {A = ℕ} 0 1 = cc in omega arith)
-
-step-full : (T : Turn) (n : ℕ) → step.Full ≡ stepOf n T → T ≡ full
-unfolding stepOf
-step-full (on v bs) n e = absurd (let z : _≡_ {A = ℕ} 0 1 = cc in omega arith)
-step-full wrong n e = absurd (let z : _≡_ {A = ℕ} 0 1 = cc in omega arith)
-step-full full n e = refl
-
--- a blank stands past the end
-pub past-end : (text : List ℕ) (i : ℕ) → i ≤ length text → length text ≤ i → 32 ≡ getD (text ++ (32 ∷ [])) i 0
-past-end text i h l = let e : i ≡ length text = omega arith in rw e (sym (getD-append-seam text 32 [] 0))
-
-pub before-end : (text : List ℕ) (i b : ℕ) → i < length text → b ≡ getD text i 0 → b ≡ getD (text ++ (32 ∷ [])) i 0
-before-end text i b h e = e ∙ sym (List·getD-append text (32 ∷ []) 0 i h)
-
-run : (t t₀ done bs : List ℕ) (n : ℕ) → t ≡ front done t₀ → length done ≡ n → length done + length bs ≤ length t₀ → sets t n bs ≡ front (done ++ bs) t₀
-run t t₀ done bs n e l h = rw (e, ← l) (front-run bs done t₀ h)
-
-going : (rest : ℕ → List ℕ → Reading) (i : ℕ) (done : List ℕ) (w : ℕ) (bs : List ℕ) → turned rest i done (on w bs) ≡ rest w (done ++ bs)
-unfolding turned
-going rest i done w bs = refl
-
--- i characters are read, n bytes, and the number so far is v
-pub record At (text t₀ t : List ℕ) (i v n : ℕ) : Type 0 where
-  pub done : List ℕ
-  pub long : length done ≡ n
-  pub within : i ≤ length text + 1
-  pub small : v ≤ 256
-  pub room : n ≤ length t
-  pub same : decoded text (length t₀) ≡ scan (drop i (text ++ (32 ∷ []))) (length t₀) i v done
-  pub filled : t ≡ front done t₀
+-- i characters are read
+pub record At (text : List ℕ) (x r : Reading) (t₀ t : List ℕ) (i : ℕ) : Type 0 where
+  pub same : heard text (x .said) ≡ heard (drop i text) (r .said)
+  pub written : write (spoken text (x .said)) (page t₀ (x .bytes)) ≡ write (spoken (drop i text) (r .said)) (page t (r .bytes))
   pub kept : length t ≡ length t₀
 
-module _ (text t₀ : List ℕ) where
-  pub at-start : At text t₀ t₀ 0 0 0
-  unfolding decoded
-  at-start = record { done = []; long = refl; within = omega arith; small = omega arith; room = omega arith; same = refl; filled = refl; kept = refl }
+module _ (text : List ℕ) (x : Reading) (t₀ : List ℕ) where
+  pub at-start : At text x x t₀ t₀ 0
+  at-start = record { same = refl; written = refl; kept = refl }
 
-  module _ (t : List ℕ) (i v n : ℕ) (h : At text t₀ t i v n) where
-    pub at-end : length text < i → Reads (decoded text (length t₀)) (Bytes n) t₀ t
-    unfolding scan
+  module _ (r : Reading) (t : List ℕ) (i : ℕ) (h : At text x r t₀ t i) where
+    pub at-end : length text ≤ i → Reads text x r t₀ t
+    unfolding heard spoken write
     at-end l =
-        let k = length-append text (32 ∷ []) in
-        let w : decoded text (length t₀) ≡ record { bytes = h .done; answer = Bytes (length (h .done)) } = h .same ∙ rw (drop-of-length-le (text ++ (32 ∷ [])) {i = i} (omega arith)) in
-        record { answer = rw (w, h .long); bytes = rw w (h .filled) }
+        let e = drop-of-length-le text {i = i} l in
+        record { answer = sym (h .same ∙ rw e); bytes = sym (h .written ∙ rw e) }
 
-    module _ (c : ℕ) (e : c ≡ getD (text ++ (32 ∷ [])) i 0) (l : i ≤ length text) where
-      abbrev here : Turn
-      here = turn (ltb n (length t)) v c
+    module _ (c : ℕ) (r′ : Reading) (t′ : List ℕ) (e : c ≡ getD text i 0) (l : i < length text) (f : r′ .said ≡ next c (r .said))
+        (g : page t′ (r′ .bytes) ≡ write (ends c (r .said)) (page t (r .bytes))) (k : length t′ ≡ length t) where
+      abbrev rest : List ℕ
+      rest = drop (i + 1) text
 
-      now : decoded text (length t₀) ≡ turned (scan (drop (i + 1) (text ++ (32 ∷ []))) (length t₀) (i + 1)) i (h .done) here
-      unfolding scan
-      now =
-          let k = length-append text (32 ∷ []) in
-          h .same ∙ rw (drop-cons (text ++ (32 ∷ [])) i 0 (omega arith), ← e, h .long, ← h .kept, add-one i)
+      here : drop i text ≡ c ∷ rest
+      here = rw (add-one i, e) (drop-cons text i 0 l)
 
-      pub at-wrong : (t′ : List ℕ) → step.Wrong ≡ stepOf n here → t′ ≡ sets t n (more here) → Reads (decoded text (length t₀)) (Wrong i) t₀ t′
-      unfolding turned more
-      at-wrong t′ f g =
-          let is = step-wrong here n f in
-          let kept : t′ ≡ t = g ∙ ap (λ (T : Turn). sets t n (more T)) is in
-          let w : decoded text (length t₀) ≡ record { bytes = h .done; answer = Wrong i } = now ∙ rw is in
-          record { answer = rw w; bytes = kept ∙ rw w (h .filled) }
+      onward : write (spoken (c ∷ rest) (r .said)) (page t (r .bytes)) ≡ write (spoken rest (r′ .said)) (page t′ (r′ .bytes))
+      unfolding spoken
+      onward = rw (f, g) (write-append (ends c (r .said)) (spoken rest (next c (r .said))) (page t (r .bytes)))
 
-      pub at-full : (t′ : List ℕ) → step.Full ≡ stepOf n here → t′ ≡ sets t n (more here) → Reads (decoded text (length t₀)) (Long) t₀ t′
-      unfolding turned more
-      at-full t′ f g =
-          let is = step-full here n f in
-          let kept : t′ ≡ t = g ∙ ap (λ (T : Turn). sets t n (more T)) is in
-          let w : decoded text (length t₀) ≡ record { bytes = h .done; answer = Long } = now ∙ rw is in
-          record { answer = rw w; bytes = kept ∙ rw w (h .filled) }
-
-      pub at-on : (w m : ℕ) (t′ : List ℕ) → step.On w m ≡ stepOf n here → w ≤ 256 → t′ ≡ sets t n (more here) → length t′ ≡ length t → At text t₀ t′ (i + 1) w m
-      at-on w m t′ f s g k =
-          let fits = more-fits n (length t) v c (h .room) in
-          let kept = h .kept in
-          let long = h .long in
-          let two = step-on here n w m f in
-          let size = two .1 in
+      pub at-more : At text x r′ t₀ t′ (i + 1)
+      unfolding heard
+      at-more =
           record {
-            done = h .done ++ more here;
-            long = length-append (h .done) (more here) ∙ omega arith;
-            within = omega arith;
-            small = s;
-            room = omega arith;
-            same = now ∙ onward w (two .0);
-            filled = g ∙ run t t₀ (h .done) (more here) n (h .filled) long (omega arith);
-            kept = k ∙ kept;
+            same = h .same ∙ rw (here, f);
+            written = h .written ∙ ap (λ (l : List ℕ). write (spoken l (r .said)) (page t (r .bytes))) here ∙ onward;
+            kept = k ∙ h .kept;
           }
-        where
-          onward : (w : ℕ) → here ≡ on w (more here) → turned (scan (drop (i + 1) (text ++ (32 ∷ []))) (length t₀) (i + 1)) i (h .done) here
-              ≡ scan (drop (i + 1) (text ++ (32 ∷ []))) (length t₀) (i + 1) w (h .done ++ more here)
-          onward w q =
-              ap (turned (scan (drop (i + 1) (text ++ (32 ∷ []))) (length t₀) (i + 1)) i (h .done)) q
-              ∙ going (scan (drop (i + 1) (text ++ (32 ∷ []))) (length t₀) (i + 1)) i (h .done) w (more here)

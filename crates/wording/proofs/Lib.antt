@@ -5,5 +5,7 @@ pub mod Filling
 pub mod Finding
 pub mod Bytes
 pub mod Answering
+pub mod Copying
+pub mod Fronting
 pub mod Decoding
 pub mod Examples

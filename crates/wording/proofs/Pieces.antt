@@ -29,22 +29,23 @@ stepped cs i b (suc j) r e l z f = rw (add-one i, f, drop-cons cs i 0 l, ← e) 
 
 -- `left` bars are still to be passed from place i on
 pub record Passing (cs : List ℕ) (k i left : ℕ) : Type 0 where
+  pub within : i ≤ length cs
   pub same : after k cs ≡ after left (drop i cs)
 
 module _ (cs : List ℕ) (k : ℕ) where
   pub pass-start : Passing cs k 0 k
-  pass-start = record { same = refl }
+  pass-start = record { within = omega arith; same = refl }
 
   module _ (i left : ℕ) (h : Passing cs k i left) where
-    pub pass-none : left ≡ 0 → after k cs ≡ drop i cs
+    pub pass-none : left ≡ 0 → (after k cs ≡ drop i cs) × (i ≤ length cs)
     unfolding after
-    pass-none e = h .same ∙ rw e
+    pass-none e = (h .same ∙ rw e, h .within)
 
-    pub pass-end : length cs ≤ i → after k cs ≡ drop i cs
-    pass-end l = h .same ∙ rw (drop-of-length-le cs {i = i} l) (after-none left)
+    pub pass-end : length cs ≤ i → (after k cs ≡ drop i cs) × (i ≤ length cs)
+    pass-end l = (h .same ∙ rw (drop-of-length-le cs {i = i} l) (after-none left), h .within)
 
     pub pass-more : (b r : ℕ) → b ≡ getD cs i 0 → i < length cs → (left ≡ 0 → ⊥) → r ≡ pick (eqb b 124) (left - 1) left → Passing cs k (i + 1) r
-    pass-more b r e l z f = record { same = h .same ∙ stepped cs i b left r e l z f }
+    pass-more b r e l z f = record { within = omega arith; same = h .same ∙ stepped cs i b left r e l z f }
 
 -- a text from place i on up to the first bar is still to be written
 pub record At (cs : List ℕ) (from : ℕ) (t₀ : List ℕ) (at : ℕ) (t : List ℕ) (k i : ℕ) : Type 0 where
@@ -56,16 +57,15 @@ module _ (cs : List ℕ) (from : ℕ) (t₀ : List ℕ) (at : ℕ) where
   at-start = record { same = refl; kept = refl }
 
   module _ (t : List ℕ) (k i : ℕ) (h : At cs from t₀ at t k i) where
-    pub at-bar : (b : ℕ) → b ≡ getD cs i 0 → i < length cs → b ≡ 124 → page t k ≡ write (upTo (drop from cs)) (page t₀ at)
+    pub at-bar : i < length cs → getD cs i 0 ≡ 124 → page t k ≡ write (upTo (drop from cs)) (page t₀ at)
     unfolding write upTo pick
-    at-bar b e l is = sym (h .same ∙ rw (drop-cons cs i 0 l, ← e, eq-eqb b 124 is))
+    at-bar l is = sym (h .same ∙ rw (drop-cons cs i 0 l, eq-eqb (getD cs i 0) 124 is))
 
     pub at-end : length cs ≤ i → page t k ≡ write (upTo (drop from cs)) (page t₀ at)
     unfolding write upTo
     at-end l = sym (h .same ∙ rw (drop-of-length-le cs {i = i} l))
 
-    pub at-more : (b c : ℕ) (t′ : List ℕ) (k′ : ℕ) → b ≡ getD cs i 0 → c ≡ getD cs i 0 → i < length cs → (b ≡ 124 → ⊥) → page t′ k′ ≡ stroke c (page t k) →
-        length t′ ≡ length t → At cs from t₀ at t′ k′ (i + 1)
+    pub at-more : (t′ : List ℕ) (k′ : ℕ) → i < length cs → (getD cs i 0 ≡ 124 → ⊥) → page t′ k′ ≡ stroke (getD cs i 0) (page t k) → length t′ ≡ length t →
+        At cs from t₀ at t′ k′ (i + 1)
     unfolding write upTo pick
-    at-more b c t′ k′ e f l is w m =
-        record { same = h .same ∙ rw (add-one i, drop-cons cs i 0 l, ← e, ne-eqb b 124 is, w, f ∙ sym e); kept = m ∙ h .kept }
+    at-more t′ k′ l is w m = record { same = h .same ∙ rw (add-one i, drop-cons cs i 0 l, ne-eqb (getD cs i 0) 124 is, w); kept = m ∙ h .kept }

@@ -4,20 +4,22 @@ use mathlib.Core.List.{List, [], _∷_, _++_}
 use mathlib.Core.Bool.{Bool, true, false}
 use lib.ListN.{length, getD, take, drop}
 use lib.Dec.{ltb, leb, eqb}
+use Rattle.language.specs.declared.Work.{Work}
+use Rattle.language.specs.declared.Inferences.{Inferences}
 use Rattle.wording.specs.Page.{pick}
 use Rattle.wording.specs.Text.{text, decimal, listed, piece}
 use Rattle.wording.specs.Tables.{kinds, troubles}
 use Rattle.wording.specs.Templates.{filled}
 
 -- an evaluation that is accepted
-unfoldable pub acceptedText : ℕ → ℕ → ℕ → List ℕ
+unfoldable pub acceptedText : ℕ → Work → Inferences → List ℕ
 unfolding text
-acceptedText long work inferences = filled (0 ∷ long ∷ work ∷ inferences ∷ []) (text "ACCEPTED with a certificate of 1 bytes, work 2, inferences 3\n")
+acceptedText long work inferences = filled (0 ∷ long ∷ work .0 ∷ inferences .0 ∷ []) (text "ACCEPTED with a certificate of 1 bytes, work 2, inferences 3\n")
 
 -- a check that is accepted
-unfoldable pub standsText : ℕ → ℕ → ℕ → List ℕ
+unfoldable pub standsText : ℕ → ℕ → Inferences → List ℕ
 unfolding text
-standsText long conclusion inferences = filled (0 ∷ long ∷ conclusion ∷ inferences ∷ []) (text "ACCEPTED with conclusion 2, inferences 3, in a certificate of 1 bytes\n")
+standsText long conclusion inferences = filled (0 ∷ long ∷ conclusion ∷ inferences .0 ∷ []) (text "ACCEPTED with conclusion 2, inferences 3, in a certificate of 1 bytes\n")
 
 -- a refusal's number and its words
 unfoldable pub refusedText : ℕ → List ℕ
@@ -93,6 +95,6 @@ unfolding text
 bytesText [] = text "\n"
 bytesText (b ∷ bs) = decimal b ++ (listed bs ++ text "\n")
 
--- what keeps a request from being answered, with a limit or a place
-unfoldable pub troubleText : ℕ → ℕ → List ℕ
-troubleText which n = filled (0 ∷ n ∷ []) (piece which troubles)
+-- what keeps a request from being answered, with a line and a column
+unfoldable pub troubleText : ℕ → ℕ → ℕ → List ℕ
+troubleText which line column = filled (0 ∷ line ∷ column ∷ 255 ∷ []) (piece which troubles)

@@ -1,91 +1,93 @@
--- Bytes written in decimal, with white space between them and around them, as document 01 writes them.
-use Prim.Native.Nat.{ℕ, _+_, _-_, _*_, _≤_}
+-- Bytes written in decimal, with white space between them and around them, as document 01 writes them. A text may come in pieces, one after another.
+use Prim.Native.Nat.{ℕ, _+_, _-_, _*_}
 use mathlib.Core.Path.{_≡_}
 use mathlib.Core.List.{List, [], _∷_, _++_}
 use mathlib.Core.Bool.{Bool, _||_}
-use lib.ListN.{length}
 use lib.Dec.{ltb, leb, eqb}
-use Rattle.words.specs.Front.{front}
-use Rattle.wording.specs.Page.{pick}
+use Rattle.wording.specs.Page.{page, pick, write}
+use Rattle.wording.specs.declared.Scan.{Scan}
+use Rattle.wording.specs.declared.Reading.{Reading}
 use Rattle.wording.specs.declared.Decoded.{Decoded}
-use Rattle.wording.specs.declared.Decoded.the-variants.{Bytes, Wrong, Long}
-use Rattle.wording.specs.declared.decimals.Step.{Step}
-use Rattle.wording.specs.declared.decimals.Step.the-variants as step
+use Rattle.wording.specs.declared.Decoded.the-variants.{Bytes, Stray, Over}
 
 -- a blank, a tab, a line's end
 unfoldable pub white : ℕ → Bool
 white c = eqb c 32 || (eqb c 9 || (eqb c 10 || eqb c 13))
 
--- the number read so far, one more than it says and 0 for none, with a digit's character more
+-- one more, as far as 64 bits go
+unfoldable pub up : ℕ → ℕ
+unfolding pick
+up n = pick (ltb n 18446744073709551615) (n + 1) n
+
+-- past white space no number is begun; past a line's end stands the next line
+unfoldable pub spaced : Scan → ℕ → Scan
+unfolding pick up
+spaced s c = record { value = 0; digits = 0; line = pick (eqb c 10) (up (s .line)) (s .line); column = pick (eqb c 10) 1 (up (s .column)) }
+
+-- the number begun, with a digit's character more
 unfoldable pub grown : ℕ → ℕ → ℕ
-unfolding pick
-grown v c = pick (eqb v 0) (c - 47) (10 * (v - 1) + (c - 47))
+grown v c = 10 * v + (c - 48)
 
--- what a character does: the number read after it and the bytes that it ends, or that it is wrong, or that there is no room
-pub data Turn : Type 0 where
-  on : ℕ → List ℕ → Turn
-  wrong : Turn
-  full : Turn
-
--- white space ends the number before it, where there is one
-unfoldable pub ended : Bool → ℕ → Turn
-unfolding pick
-ended room v = pick (eqb v 0) (on 0 []) (pick room (on 0 ((v - 1) ∷ [])) full)
-
--- a digit makes it longer
-unfoldable pub digit : ℕ → ℕ → Turn
-unfolding pick grown
-digit v c = pick (leb (grown v c) 256) (on (grown v c) []) wrong
+-- a digit makes the number longer; a number over 255 is wrong where it begins
+unfoldable pub digit : Scan → ℕ → Decoded
+unfolding pick up grown
+digit s c =
+    pick (leb (grown (s .value) c) 255) (Bytes (record { value = grown (s .value) c; digits = up (s .digits); line = s .line; column = up (s .column) }))
+    (Over (s .line) (s .column - s .digits))
 
 -- any other character is wrong
-unfoldable pub other : ℕ → ℕ → Turn
+unfoldable pub other : Scan → ℕ → Decoded
 unfolding pick digit
-other v c = pick (leb 48 c) (pick (leb c 57) (digit v c) wrong) wrong
+other s c = pick (leb 48 c) (pick (leb c 57) (digit s c) (Stray (s .line) (s .column))) (Stray (s .line) (s .column))
 
-unfoldable pub turn : Bool → ℕ → ℕ → Turn
-unfolding pick white ended other
-turn room v c = pick (white c) (ended room v) (other v c)
+unfoldable pub turn : Scan → ℕ → Decoded
+unfolding pick white spaced other
+turn s c = pick (white c) (Bytes (spaced s c)) (other s c)
 
--- the bytes read, and the answer
-pub record Reading : Type 0 where
-  pub bytes : List ℕ
-  pub answer : Decoded
+-- what is said with a character more; after a fault nothing changes it
+unfoldable pub next : ℕ → Decoded → Decoded
+unfolding turn
+next c (Bytes s) = turn s c
+next c (Stray line column) = Stray line column
+next c (Over line column) = Over line column
 
-unfoldable pub turned : (ℕ → List ℕ → Reading) → ℕ → List ℕ → Turn → Reading
-turned rest at done (on v more) = rest v (done ++ more)
-turned rest at done wrong = record { bytes = done; answer = Wrong at }
-turned rest at done full = record { bytes = done; answer = Long }
+-- the byte that is complete, where a number is begun
+unfoldable pub ended : Scan → List ℕ
+unfolding pick
+ended s = pick (eqb (s .digits) 0) [] (s .value ∷ [])
 
--- characters from a place on, with the number and the bytes read so far
-unfoldable pub scan : List ℕ → ℕ → ℕ → ℕ → List ℕ → Reading
-unfolding turn turned
-scan [] room at v done = record { bytes = done; answer = Bytes (length done) }
-scan (c ∷ cs) room at v done = turned (scan cs room (at + 1)) at done (turn (ltb (length done) room) v c)
+-- white space ends a number
+unfoldable pub ends : ℕ → Decoded → List ℕ
+unfolding pick white ended
+ends c (Bytes s) = pick (white c) (ended s) []
+ends c (Stray line column) = []
+ends c (Over line column) = []
 
--- a whole text, white space after it
-unfoldable pub decoded : List ℕ → ℕ → Reading
-unfolding scan
-decoded text room = scan (text ++ (32 ∷ [])) room 0 0 []
+-- what is said after a piece of a text, and the bytes that it ends
+unfoldable pub heard : List ℕ → Decoded → Decoded
+unfolding next
+heard [] d = d
+heard (c ∷ cs) d = heard cs (next c d)
 
--- what reading answers, and the buffer after it
-pub record Reads (x : Reading) (r : Decoded) (t₀ t : List ℕ) : Type 0 where
-  pub answer : r ≡ x .answer
-  pub bytes : t ≡ front (x .bytes) t₀
+unfoldable pub spoken : List ℕ → Decoded → List ℕ
+unfolding next ends
+spoken [] d = []
+spoken (c ∷ cs) d = ends c d ++ spoken cs (next c d)
 
--- the bytes that a turn ends
-unfoldable pub more : Turn → List ℕ
-more (on v bs) = bs
-more wrong = []
-more full = []
+-- before a text's first character
+unfoldable pub unread : Reading
+unread = record { said = Bytes (record { value = 0; digits = 0; line = 1; column = 1 }); bytes = 0 }
 
--- a turn as a step after n bytes
-unfoldable pub stepOf : ℕ → Turn → Step
-stepOf n (on v bs) = step.On v (n + length bs)
-stepOf n wrong = step.Wrong
-stepOf n full = step.Full
+-- what reading a piece answers, and the page of bytes after it
+pub record Reads (piece : List ℕ) (x r : Reading) (t₀ t : List ℕ) : Type 0 where
+  pub answer : r .said ≡ heard piece (x .said)
+  pub bytes : page t (r .bytes) ≡ write (spoken piece (x .said)) (page t₀ (x .bytes))
 
--- the number read so far is at most one more than a byte
-abbrev pub Small : Step → Type 0
-Small (step.On v n) = v ≤ 256
-Small step.Wrong = Unit {0}
-Small step.Full = Unit {0}
+-- a whole text, white space after it: what it says, and its bytes
+unfoldable pub said : List ℕ → Decoded
+unfolding heard unread
+said text = heard (text ++ (32 ∷ [])) (unread .said)
+
+unfoldable pub bytesOf : List ℕ → List ℕ
+unfolding spoken unread
+bytesOf text = spoken (text ++ (32 ∷ [])) (unread .said)

@@ -23,7 +23,8 @@ unfoldable pub kinds : List ℕ
 unfolding text
 kinds = text "proposition 1|variable 1, counted from the innermost|constructor 7|rule 8|function, parameters 1, body phrase 2|method, parameters 1, body phrase 2|call of phrase 1, argument phrases:4|let phrase 1 in phrase 2|fix of phrase 1|match of phrase 1, clauses by pattern and phrase:6|||||||method call of phrase 1, argument phrases:4|assume phrase 1 in phrase 2|suppose-absurd phrase 1 in phrase 2|dlet phrase 1 in phrase 2|phrase 1 by phrase 2|block of phrases5|dmatch of phrase 1, clauses by pattern and phrase:6"
 
--- what keeps a request from being answered, as templates over a limit or a place: the sheet or the certificate is too long, its text says no bytes; no request
+-- what keeps a request from being answered, as templates over a line, a column and the largest byte: faults in the text of the sheet, of the certificate;
+-- no request; a certificate that can't be kept
 unfoldable pub troubles : List ℕ
 unfolding text
-troubles = text "REFUSED as the sheet is longer than any sheet can be, which is 1 bytes\n|REFUSED as the certificate is longer than any certificate can be, which is 1 bytes\n|UNREADABLE: the sheet's text says no bytes: character 1 is neither a digit nor white space, or makes a number over a byte's\n|UNREADABLE: the certificate's text says no bytes: character 1 is neither a digit nor white space, or makes a number over a byte's\n|UNREADABLE: the request is no request, or is cut short\n"
+troubles = text "UNREADABLE: the sheet's text says no bytes: at line 1, column 2 stands a character that is neither a digit nor white space\n|UNREADABLE: the sheet's text says no bytes: at line 1, column 2 begins a number over 3\n|UNREADABLE: the certificate's text says no bytes: at line 1, column 2 stands a character that is neither a digit nor white space\n|UNREADABLE: the certificate's text says no bytes: at line 1, column 2 begins a number over 3\n|UNREADABLE: the request is no request, or is cut short\n|UNWRITTEN: the certificate can't be kept\n"

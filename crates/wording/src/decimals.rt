@@ -1,139 +1,170 @@
 // Bytes written in decimal, with white space between them and around them, as document 01 writes them.
 ghost use mathlib.Core.Path.{_≡_};
-ghost use mathlib.Core.List.{[], _∷_, _++_};
-ghost use Prim.Native.Nat.{_≤_};
-ghost use lib.ListN.{length, getD};
-ghost use lib.Dec.{ltb};
-ghost use lib.Seq.{sets};
-ghost use Rattle.wording.specs.Decimals.{white, grown as Decimals·grown, ended as Decimals·ended, digit as Decimals·digit, other as Decimals·other, turn as Decimals·turn, decoded, Reads, more, stepOf, Small};
+ghost use Prim.Native.Nat.{_-_, _≤_};
+ghost use Rattle.wording.specs.Page.{page as Page·page, write};
+ghost use Rattle.wording.specs.Decimals.{white, up as Decimals·up, spaced as Decimals·spaced, grown as Decimals·grown, digit as Decimals·digit, other as Decimals·other, turn as Decimals·turn, next, ended as Decimals·ended, ends, unread as Decimals·unread, Reads};
+ghost use Rattle.wording.specs.declared.Decoded.the-variants.{Bytes};
 use crate::Decoded;
+use crate::Reading;
+use crate::Scan;
 use crate::page;
 
-// The number read so far, one more than it says and 0 for none, and how many bytes are read; or that the character is wrong; or that there is no room.
-enum Step {
-    On(usize, usize),
-    Wrong,
-    Full,
+// The largest number of 64 bits.
+const LARGEST: usize = 18446744073709551615;
+
+// Before a text's first character.
+pub fn unread() -> Reading
+    ensures { λ r. ⌜ r ≡ Decimals·unread ⌝ }
+{
+    Reading {
+        said: Decoded::Bytes(Scan {
+            value: 0,
+            digits: 0,
+            line: 1,
+            column: 1,
+        }),
+        bytes: 0,
+    }
 }
 
-// The bytes of a text, at the front of out.
-pub fn read(out: &mut [u8], text: &[u8]) -> Decoded
-    ensures { λ r. ⌜ Reads (decoded (now (text .entry)) (length (now (out .entry)))) r (now (out .entry)) (now (out .exit)) ⌝ }
+// A piece of a text, after what was read before: its bytes are written on the page out.
+pub fn read(out: &mut [u8], before: Reading, piece: &[u8]) -> Reading
+    ensures { λ r. ⌜ Reads (now (piece .entry)) before r (now (out .entry)) (now (out .exit)) ⌝ }
 {
+    let mut reading = before;
     let mut i = 0;
-    let mut v = 0;
-    let mut n = 0;
-    while i <= text.len() {
-        match turn(out, n, v, character(text, i)) {
-            Step::On(w, m) => {
-                v = w;
-                n = m;
-            }
-            Step::Wrong => {
-                return Decoded::Wrong(i);
-            }
-            Step::Full => {
-                return Decoded::Long;
-            }
-        }
+    while i < piece.len() {
+        reading = turn(out, reading, piece[i]);
         i += 1;
     }
-    Decoded::Bytes(n)
+    reading
 }
 
-// What a character does, after n bytes.
-fn turn(out: &mut [u8], n: usize, v: usize, c: usize) -> Step
-    requires { ⌜ (v ≤ 256) × (n ≤ length (now out)) ⌝ }
-    ensures { λ r. ⌜ Small r ⌝ }
-    ensures { λ r. ⌜ r ≡ stepOf n (Decimals·turn (ltb n (length (now (out .entry)))) v c) ⌝ }
-    ensures { λ _. ⌜ now (out .exit) ≡ sets (now (out .entry)) n (more (Decimals·turn (ltb n (length (now (out .entry)))) v c)) ⌝ }
+// What a character does; after a fault nothing more is read.
+fn turn(out: &mut [u8], before: Reading, c: u8) -> Reading
+    ensures { λ r. ⌜ r .said ≡ next c (before .said) ⌝ }
+    ensures { λ r. ⌜ Page·page (now (out .exit)) (r .bytes) ≡ write (ends c (before .said)) (Page·page (now (out .entry)) (before .bytes)) ⌝ }
+{
+    let said = before.said;
+    match said {
+        Decoded::Bytes(scan) => character(out, before.bytes, scan, c),
+        Decoded::Stray(line, column) => before,
+        Decoded::Over(line, column) => before,
+    }
+}
+
+// A character where no fault was met: white space ends a number.
+fn character(out: &mut [u8], at: usize, scan: Scan, c: u8) -> Reading
+    ensures { λ r. ⌜ r .said ≡ Decimals·turn scan c ⌝ }
+    ensures { λ r. ⌜ Page·page (now (out .exit)) (r .bytes) ≡ write (ends c (Bytes scan)) (Page·page (now (out .entry)) at) ⌝ }
 {
     if is_white(c) {
-        return ended(out, n, v);
+        let n = ended(out, at, scan);
+        return Reading {
+            said: Decoded::Bytes(spaced(scan, c)),
+            bytes: n,
+        };
     }
-    other(n, v, c)
+    Reading {
+        said: other(scan, c),
+        bytes: at,
+    }
 }
 
-// White space ends the number before it, where there is one.
-fn ended(out: &mut [u8], n: usize, v: usize) -> Step
-    requires { ⌜ v ≤ 256 ⌝ }
-    ensures { λ r. ⌜ Small r ⌝ }
-    ensures { λ r. ⌜ r ≡ stepOf n (Decimals·ended (ltb n (length (now (out .entry)))) v) ⌝ }
-    ensures { λ _. ⌜ now (out .exit) ≡ sets (now (out .entry)) n (more (Decimals·ended (ltb n (length (now (out .entry)))) v)) ⌝ }
+// The byte that is complete, where a number is begun.
+fn ended(out: &mut [u8], at: usize, scan: Scan) -> usize
+    ensures { λ r. ⌜ Page·page (now (out .exit)) r ≡ write (Decimals·ended scan) (Page·page (now (out .entry)) at) ⌝ }
 {
-    if v == 0 {
-        return Step::On(0, n);
+    if scan.digits == 0 {
+        return at;
     }
-    if n < out.len() {
-        out[n] = (v - 1) as u8;
-        return Step::On(0, n + 1);
+    page::put(out, at, scan.value)
+}
+
+// Past white space no number is begun; past a line's end stands the next line.
+fn spaced(scan: Scan, c: u8) -> Scan
+    ensures { λ r. ⌜ r ≡ Decimals·spaced scan c ⌝ }
+{
+    if c == b'\n' {
+        return Scan {
+            value: 0,
+            digits: 0,
+            line: up(scan.line),
+            column: 1,
+        };
     }
-    Step::Full
+    Scan {
+        value: 0,
+        digits: 0,
+        line: scan.line,
+        column: up(scan.column),
+    }
 }
 
 // A digit makes the number longer; any other character is wrong.
-fn other(n: usize, v: usize, c: usize) -> Step
-    requires { ⌜ v ≤ 256 ⌝ }
-    ensures { λ r. ⌜ Small r ⌝ }
-    ensures { λ r. ⌜ r ≡ stepOf n (Decimals·other v c) ⌝ }
+fn other(scan: Scan, c: u8) -> Decoded
+    ensures { λ r. ⌜ r ≡ Decimals·other scan c ⌝ }
 {
-    if 48 <= c {
-        if c <= 57 {
-            return digit(n, v, c);
+    if b'0' <= c {
+        if c <= b'9' {
+            return digit(scan, c);
         }
-        return Step::Wrong;
+        return Decoded::Stray(scan.line, scan.column);
     }
-    Step::Wrong
+    Decoded::Stray(scan.line, scan.column)
 }
 
-// A digit.
-fn digit(n: usize, v: usize, c: usize) -> Step
-    requires { ⌜ (v ≤ 256) × (48 ≤ c) × (c ≤ 57) ⌝ }
-    ensures { λ r. ⌜ Small r ⌝ }
-    ensures { λ r. ⌜ r ≡ stepOf n (Decimals·digit v c) ⌝ }
+// A digit; a number over 255 is wrong where it begins.
+fn digit(scan: Scan, c: u8) -> Decoded
+    requires { ⌜ (48 ≤ c) × (c ≤ 57) ⌝ }
+    ensures { λ r. ⌜ r ≡ Decimals·digit scan c ⌝ }
 {
-    let w = grown(v, c);
-    if w <= 256 {
-        return Step::On(w, n);
+    let w = grown(scan.value, c);
+    if w <= 255 {
+        return Decoded::Bytes(Scan {
+            value: w as u8,
+            digits: up(scan.digits),
+            line: scan.line,
+            column: up(scan.column),
+        });
     }
-    Step::Wrong
+    Decoded::Over(scan.line, less(scan.column, scan.digits))
 }
 
-// The number with a digit more.
-fn grown(v: usize, c: usize) -> usize
-    requires { ⌜ (v ≤ 256) × (48 ≤ c) × (c ≤ 57) ⌝ }
+// The number begun, with a digit's character more.
+fn grown(v: u8, c: u8) -> usize
+    requires { ⌜ (48 ≤ c) × (c ≤ 57) ⌝ }
     ensures { λ r. ⌜ r ≡ Decimals·grown v c ⌝ }
 {
-    if v == 0 {
-        return c - 47;
-    }
-    10 * (v - 1) + (c - 47)
+    10 * page::wide(v) + page::wide(c - b'0')
+}
+
+// One more, as far as 64 bits go.
+fn up(n: usize) -> usize
+    ensures { λ r. ⌜ r ≡ Decimals·up n ⌝ }
+{
+    if n < LARGEST { n + 1 } else { n }
+}
+
+// So much less, or 0.
+fn less(n: usize, m: usize) -> usize
+    ensures { λ r. ⌜ r ≡ n - m ⌝ }
+{
+    if m < n { n - m } else { 0 }
 }
 
 // A blank, a tab, a line's end.
-fn is_white(c: usize) -> bool
+fn is_white(c: u8) -> bool
     ensures { λ r. ⌜ r ≡ white c ⌝ }
 {
-    if c == 32 {
+    if c == b' ' {
         return true;
     }
-    if c == 9 {
+    if c == b'\t' {
         return true;
     }
-    if c == 10 {
+    if c == b'\n' {
         return true;
     }
-    c == 13
-}
-
-// The character at a place; a blank stands past the text's end.
-fn character(text: &[u8], at: usize) -> usize
-    requires { ⌜ at ≤ length (now text) ⌝ }
-    ensures { λ r. ⌜ r ≡ getD (now (text .entry) ++ (32 ∷ [])) at 0 ⌝ }
-{
-    if at < text.len() {
-        page::wide(text[at])
-    } else {
-        32
-    }
+    c == b'\r'
 }

@@ -6,50 +6,114 @@ ghost use Prim.Native.Nat.{_-_, _<_};
 ghost use lib.ListN.{length};
 ghost use Rattle.wording.specs.Page.{page as Page·page, write};
 ghost use Rattle.wording.specs.Answers.{acceptedText, standsText, refusedText, dotsText, hereText, aroundText, sheetText, certificateText, firstAt, operand as Answers·operand, factsOf, phraseText, fallsText, failsText, bytesText, troubleText};
-ghost use Rattle.wording.specs.Decimals.{decoded, Reads};
+ghost use Rattle.wording.specs.Decimals.{unread as Decimals·unread, Reads};
+use language::Inferences;
+use language::Work;
+use language::refusal;
+use records::phrase_kind;
+use records::rows;
 
-mod decimals;
-mod page;
+pub mod decimals;
+pub mod page;
 mod tables;
-mod template;
+pub mod template;
 
-// What a text of bytes in decimal says: how many there are; or the place of the first character that is wrong; or that there is no room for them.
-pub enum Decoded {
-    Bytes(usize),
-    Wrong(usize),
-    Long,
+// What keeps a request from being answered, by its number. A character in the sheet's text is neither a digit nor white space.
+pub const STRAY_IN_SHEET: usize = 0;
+
+// A number in the sheet's text is over 255.
+pub const OVER_IN_SHEET: usize = 1;
+
+// A character in the certificate's text is neither a digit nor white space.
+pub const STRAY_IN_CERTIFICATE: usize = 2;
+
+// A number in the certificate's text is over 255.
+pub const OVER_IN_CERTIFICATE: usize = 3;
+
+// The request is none, or is cut short.
+pub const NO_REQUEST: usize = 4;
+
+// The certificate can't be kept.
+pub const UNKEPT: usize = 5;
+
+// Where a text is read: the number begun and how many digits it has, and the next character's line and column, counted from 1.
+pub struct Scan {
+    pub value: u8,
+    pub digits: usize,
+    pub line: usize,
+    pub column: usize,
 }
 
-// The bytes of a text in decimal, at the front of out.
-pub fn read_decimal(out: &mut [u8], text: &[u8]) -> Decoded
-    ensures { λ r. ⌜ Reads (decoded (now (text .entry)) (length (now (out .entry)))) r (now (out .entry)) (now (out .exit)) ⌝ }
+// What a text of bytes in decimal says so far: bytes; or the line and column of its first fault, a character that is neither a digit nor white space,
+// or the beginning of a number over 255.
+pub enum Decoded {
+    Bytes(Scan),
+    Stray(usize, usize),
+    Over(usize, usize),
+}
+
+// A text read so far: what it says, and how many bytes are written.
+pub struct Reading {
+    pub said: Decoded,
+    pub bytes: usize,
+}
+
+// Before a text's first character.
+pub fn unread() -> Reading
+    ensures { λ r. ⌜ r ≡ Decimals·unread ⌝ }
 {
-    decimals::read(out, text)
+    decimals::unread()
+}
+
+// A piece of a text in decimal, after what was read before; its bytes are written on the page out. White space stands after a text's last piece.
+pub fn read_decimal(out: &mut [u8], before: Reading, piece: &[u8]) -> Reading
+    ensures { λ r. ⌜ Reads (now (piece .entry)) before r (now (out .entry)) (now (out .exit)) ⌝ }
+{
+    decimals::read(out, before, piece)
+}
+
+// Bytes as they are, on the page out.
+pub fn copy(out: &mut [u8], at: usize, s: &[u8]) -> usize
+    ensures { λ r. ⌜ Page·page (now (out .exit)) r ≡ write (now (s .entry)) (Page·page (now (out .entry)) at) ⌝ }
+{
+    page::copy(out, at, s)
 }
 
 // An evaluation that is accepted: the certificate's length, the work, the inferences.
-pub fn accepted(out: &mut [u8], at: usize, long: usize, work: usize, inferences: usize) -> usize
-    ensures { λ r. ⌜ Page·page (now (out .exit)) r ≡ write (acceptedText long work inferences) (Page·page (now (out .entry)) at) ⌝ }
+pub fn accepted(
+    out: &mut [u8],
+    at: usize,
+    length: usize,
+    work: Work,
+    inferences: Inferences,
+) -> usize
+    ensures { λ r. ⌜ Page·page (now (out .exit)) r ≡ write (acceptedText length work inferences) (Page·page (now (out .entry)) at) ⌝ }
 {
     template::fill(
         out,
         at,
         b"ACCEPTED with a certificate of 1 bytes, work 2, inferences 3\n",
         0,
-        &[0, long, work, inferences],
+        &[0, length, work.0, inferences.0],
     )
 }
 
 // A check that is accepted: the certificate's length, the conclusion's number, the inferences.
-pub fn stands(out: &mut [u8], at: usize, long: usize, conclusion: usize, inferences: usize) -> usize
-    ensures { λ r. ⌜ Page·page (now (out .exit)) r ≡ write (standsText long conclusion inferences) (Page·page (now (out .entry)) at) ⌝ }
+pub fn stands(
+    out: &mut [u8],
+    at: usize,
+    length: usize,
+    conclusion: usize,
+    inferences: Inferences,
+) -> usize
+    ensures { λ r. ⌜ Page·page (now (out .exit)) r ≡ write (standsText length conclusion inferences) (Page·page (now (out .entry)) at) ⌝ }
 {
     template::fill(
         out,
         at,
         b"ACCEPTED with conclusion 2, inferences 3, in a certificate of 1 bytes\n",
         0,
-        &[0, long, conclusion, inferences],
+        &[0, length, conclusion, inferences.0],
     )
 }
 
@@ -65,8 +129,8 @@ pub fn falls(
     ensures { λ r. ⌜ Page·page (now (out .exit)) r ≡ write (fallsText (now (sheet .entry)) (now (certificate .entry)) number place) (Page·page (now (out .entry)) at) ⌝ }
 {
     let k = refused(out, at, number);
-    if 3 <= number {
-        if number <= 7 {
+    if refusal::BYTES_END <= number {
+        if number <= refusal::BYTES_AFTER {
             return in_sheet(out, k, sheet, place);
         }
         return in_certificate(out, k, certificate, place);
@@ -79,8 +143,8 @@ pub fn fails(out: &mut [u8], at: usize, sheet: &[u8], number: usize, place: usiz
     ensures { λ r. ⌜ Page·page (now (out .exit)) r ≡ write (failsText (now (sheet .entry)) number place) (Page·page (now (out .entry)) at) ⌝ }
 {
     let k = refused(out, at, number);
-    if 3 <= number {
-        if number <= 7 {
+    if refusal::BYTES_END <= number {
+        if number <= refusal::BYTES_AFTER {
             return in_sheet(out, k, sheet, place);
         }
     }
@@ -109,11 +173,11 @@ pub fn in_decimal(out: &mut [u8], at: usize, certificate: &[u8]) -> usize
     page::words(out, all, b"\n", 0)
 }
 
-// What keeps a request from being answered: 0 and 1 a sheet or a certificate longer than a limit; 2 and 3 the place in the text of one that says no bytes; 4 no request.
-pub fn trouble(out: &mut [u8], at: usize, which: usize, n: usize) -> usize
-    ensures { λ r. ⌜ Page·page (now (out .exit)) r ≡ write (troubleText which n) (Page·page (now (out .entry)) at) ⌝ }
+// What keeps a request from being answered, by its number, with the line and column of a fault.
+pub fn trouble(out: &mut [u8], at: usize, which: usize, line: usize, column: usize) -> usize
+    ensures { λ r. ⌜ Page·page (now (out .exit)) r ≡ write (troubleText which line column) (Page·page (now (out .entry)) at) ⌝ }
 {
-    template::fill(out, at, &tables::TROUBLES, which, &[0, n])
+    template::fill(out, at, &tables::TROUBLES, which, &[0, line, column, 255])
 }
 
 // A refusal's number and its words.
@@ -182,7 +246,7 @@ fn start(place: usize) -> usize
 }
 
 // A phrase's row as facts.
-fn facts_of(row: &[u32], names: &[u32]) -> [usize; 12]
+fn facts_of(row: &[u32], names: &[u32]) -> [usize; rows::PHRASE]
     ensures { λ r. ⌜ r ≡ factsOf (now (row .entry)) (now (names .entry)) ⌝ }
 {
     [
@@ -205,7 +269,7 @@ fn facts_of(row: &[u32], names: &[u32]) -> [usize; 12]
 fn operand(row: &[u32], names: &[u32]) -> usize
     ensures { λ r. ⌜ r ≡ Answers·operand (now (row .entry)) (now (names .entry)) ⌝ }
 {
-    if words::at(row, 0) == 0 {
+    if words::at(row, 0) == phrase_kind::PROPOSITION {
         return first_at(names, words::at(row, 1));
     }
     words::at(row, 1)

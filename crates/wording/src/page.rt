@@ -1,11 +1,14 @@
 // Writing on a page, a lent buffer of which a front is written: each function adds its text and answers how much is then written.
 // Writing past the page's end changes nothing.
 ghost use mathlib.Core.Path.{_≡_};
-ghost use Prim.Native.Nat.{_+_, _-_, _<_};
+ghost use Prim.Native.Nat.{_+_, _-_, _≤_, _<_};
 ghost use lib.Dec.{eqb};
-ghost use lib.ListN.{getD, take, drop};
+ghost use lib.ListN.{length, take, drop};
 ghost use Rattle.wording.specs.Page.{page, pick, stroke, write};
 ghost use Rattle.wording.specs.Text.{digits, decimal, listed, after, upTo, piece};
+
+// The digit 0's character.
+const ZERO: usize = b'0' as usize;
 
 // A character.
 pub fn put(out: &mut [u8], at: usize, c: u8) -> usize
@@ -16,6 +19,19 @@ pub fn put(out: &mut [u8], at: usize, c: u8) -> usize
         return at + 1;
     }
     at
+}
+
+// Bytes as they are.
+pub fn copy(out: &mut [u8], at: usize, s: &[u8]) -> usize
+    ensures { λ r. ⌜ page (now (out .exit)) r ≡ write (now (s .entry)) (page (now (out .entry)) at) ⌝ }
+{
+    let mut k = at;
+    let mut i = 0;
+    while i < s.len() {
+        k = put(out, k, s[i]);
+        i += 1;
+    }
+    k
 }
 
 // A number in decimal.
@@ -44,7 +60,7 @@ fn digit(d: usize) -> u8
     requires { ⌜ d < 10 ⌝ }
     ensures { λ r. ⌜ r ≡ d + 48 ⌝ }
 {
-    (d + 48) as u8
+    (d + ZERO) as u8
 }
 
 // Numbers in decimal, each after a blank: n of a list, or fewer where it ends, from a place on.
@@ -105,7 +121,7 @@ fn up_to(out: &mut [u8], at: usize, text: &[u8], from: usize) -> usize
     let mut k = at;
     let mut i = from;
     while i < text.len() {
-        if wide(text[i]) == 124 {
+        if text[i] == b'|' {
             return k;
         }
         k = put(out, k, text[i]);
@@ -116,7 +132,7 @@ fn up_to(out: &mut [u8], at: usize, text: &[u8], from: usize) -> usize
 
 // The place past k bars; the text's end where there are fewer.
 pub fn skip(text: &[u8], k: usize) -> usize
-    ensures { λ r. ⌜ after k (now (text .entry)) ≡ drop r (now (text .entry)) ⌝ }
+    ensures { λ r. ⌜ (after k (now (text .entry)) ≡ drop r (now (text .entry))) × (r ≤ length (now (text .entry))) ⌝ }
 {
     let mut i = 0;
     let mut left = k;
@@ -124,18 +140,18 @@ pub fn skip(text: &[u8], k: usize) -> usize
         if left == 0 {
             return i;
         }
-        left = passed(left, wide(text[i]));
+        left = passed(left, text[i]);
         i += 1;
     }
     i
 }
 
 // How many bars are left to pass after a character.
-fn passed(left: usize, c: usize) -> usize
+fn passed(left: usize, c: u8) -> usize
     requires { ⌜ 0 < left ⌝ }
     ensures { λ r. ⌜ r ≡ pick (eqb c 124) (left - 1) left ⌝ }
 {
-    if c == 124 { left - 1 } else { left }
+    if c == b'|' { left - 1 } else { left }
 }
 
 // A character's number.

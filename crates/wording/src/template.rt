@@ -22,7 +22,7 @@ fn fill_from(out: &mut [u8], at: usize, text: &[u8], from: usize, facts: &[usize
     let mut k = at;
     let mut i = from;
     while i < text.len() {
-        if page::wide(text[i]) == 124 {
+        if text[i] == b'|' {
             return k;
         }
         k = part(out, k, text[i], facts);
@@ -35,10 +35,9 @@ fn fill_from(out: &mut [u8], at: usize, text: &[u8], from: usize, facts: &[usize
 fn part(out: &mut [u8], at: usize, c: u8, facts: &[usize]) -> usize
     ensures { λ r. ⌜ Page·page (now (out .exit)) r ≡ write (Templates·part (now (facts .entry)) c) (Page·page (now (out .entry)) at) ⌝ }
 {
-    let d = page::wide(c);
-    if 49 <= d {
-        if d <= 57 {
-            return told(out, at, d, facts);
+    if b'1' <= c {
+        if c <= b'9' {
+            return told(out, at, c, facts);
         }
         return page::put(out, at, c);
     }
@@ -46,33 +45,33 @@ fn part(out: &mut [u8], at: usize, c: u8, facts: &[usize]) -> usize
 }
 
 // What a digit's character stands for: 1, 2 and 3 that fact; 4 and 5 a list of facts, 6 clauses; 7, 8 and 9 a name.
-fn told(out: &mut [u8], at: usize, c: usize, facts: &[usize]) -> usize
+fn told(out: &mut [u8], at: usize, c: u8, facts: &[usize]) -> usize
     requires { ⌜ 49 ≤ c ⌝ }
     ensures { λ r. ⌜ Page·page (now (out .exit)) r ≡ write (Templates·told (now (facts .entry)) c) (Page·page (now (out .entry)) at) ⌝ }
 {
-    if c <= 51 {
-        return page::number(out, at, fact(facts, c - 48));
+    if c <= b'3' {
+        return page::number(out, at, fact(facts, page::wide(c - b'0')));
     }
-    if c == 52 {
+    if c == b'4' {
         return page::list(out, at, facts, 3, fact(facts, 2));
     }
-    if c == 53 {
+    if c == b'5' {
         return page::list(out, at, facts, 2, fact(facts, 1));
     }
-    if c == 54 {
+    if c == b'6' {
         return page::list(out, at, facts, 3, paired(fact(facts, 2)));
     }
     named(out, at, c, fact(facts, 1))
 }
 
 // The words for a number: 7 those of a constructor, 8 of a rule, 9 of a refusal.
-fn named(out: &mut [u8], at: usize, c: usize, k: usize) -> usize
+fn named(out: &mut [u8], at: usize, c: u8, k: usize) -> usize
     ensures { λ r. ⌜ Page·page (now (out .exit)) r ≡ write (Templates·named c k) (Page·page (now (out .entry)) at) ⌝ }
 {
-    if c == 55 {
+    if c == b'7' {
         return page::words(out, at, &tables::CONSTRUCTORS, k);
     }
-    if c == 56 {
+    if c == b'8' {
         return page::words(out, at, &tables::RULES, k);
     }
     page::words(out, at, &tables::REFUSALS, k)

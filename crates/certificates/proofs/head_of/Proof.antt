@@ -28,7 +28,7 @@ returns-2 : tie.Need-returns-2
 unfolding headBy
 returns-2 c = rw (← c .before .before .at .ensures, c .if2 .taken) (refl, omega arith, omega arith, omega arith)
 
-other : (x y : ℕ) → (x ≡ 0 → ⊥) → (x ≡ 1 → ⊥) → _≡_ {A = Head} (record { width = 1; names = 1; rules = 0 }) (headBy x y)
+other : (x y : ℕ) → (x ≡ 0 → ⊥) → (x ≡ 1 → ⊥) → _≡_ {A = Head} (record { width = 1; names = 1; rules = record { 0 = 0 } }) (headBy x y)
 unfolding headBy
 other zero y h g = absurd (h refl)
 other (suc zero) y h g = absurd (g refl)

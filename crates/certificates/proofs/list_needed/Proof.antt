@@ -6,7 +6,7 @@ use Rattle.certificates.proofs.list_needed.Statement.{statement}
 use Rattle.certificates.proofs.list_needed.Tie as tie
 
 abbrev Inv-loop : tie.InvT-loop
-Inv-loop listing₀ forms n tokens m i₀ left₀ count₀ rules₀ listing i left count rules = Needing forms n tokens m listing₀ listing i left count rules
+Inv-loop listing₀ forms n tokens m i₀ left₀ count₀ rules₀ listing i left count rules = Needing forms n tokens m listing₀ listing i left count (rules .0)
 
 abbrev μ-loop : tie.MeasureT-loop
 μ-loop listing₀ forms n tokens m i₀ left₀ count₀ rules₀ listing i left count rules = m - i
@@ -40,17 +40,17 @@ loop-again c =
 head-of-requires : tie.Need-head-of-requires Inv-loop μ-loop
 head-of-requires c κs = let p = c .before .before .before .before .before .before .pre .short in search needs
 
-add-rules : tie.Need-add-rules Inv-loop μ-loop
-add-rules c = let p = c .before .before .before .before .before .before .before .before .pre .short in let q = c .before .before .before .before .loop .inv .few in let w = c .before .head-of .ensures in search needs
+add-counted : tie.Need-add-counted Inv-loop μ-loop
+add-counted c = let p = c .before .before .before .before .before .before .before .before .before .pre .short in let q = c .before .before .before .before .before .loop .inv .few in let w = c .before .before .head-of .ensures in search needs
 
 add-i-2 : tie.Need-add-i-2 Inv-loop μ-loop
-add-i-2 c = let p = c .before .before .before .before .before .before .before .before .before .pre .short in let w = c .before .before .head-of .ensures in search needs
+add-i-2 c = let p = c .before .before .before .before .before .before .before .before .before .before .pre .short in let w = c .before .before .before .head-of .ensures in search needs
 
 loop-less-2 : tie.Need-loop-less-2 Inv-loop μ-loop
-loop-less-2 c = let w = c .before .before .head-of .ensures in search needs
+loop-less-2 c = let w = c .before .before .before .head-of .ensures in search needs
 
 loop-again-2 : tie.Need-loop-again-2 Inv-loop μ-loop
-loop-again-2 c = needing-head _ _ _ _ _ _ _ _ _ _ (c .before .before .before .before .before .loop .inv) (c .before .before .before .before .loop-test .taken) (c .before .before .before .if1 .left) _ (c .before .before .head-of .ensures .0) (c .before .before .head-of .ensures .1) (c .before .before .head-of .ensures .3)
+loop-again-2 c = needing-head _ _ _ _ _ _ _ _ _ _ (c .before .before .before .before .before .before .loop .inv) (c .before .before .before .before .before .loop-test .taken) (c .before .before .before .before .if1 .left) _ (c .before .before .before .head-of .ensures .0) (c .before .before .before .head-of .ensures .1) (c .before .before .before .head-of .ensures .3)
 
 same-length : tie.Need-same-length Inv-loop μ-loop
 same-length c = c .before .loop .inv .long
@@ -72,7 +72,7 @@ list-needed-spec =
     loop-less
     loop-again
     head-of-requires
-    add-rules
+    add-counted
     add-i-2
     loop-less-2
     loop-again-2

@@ -18,13 +18,13 @@ list-requires c κs =
     concluding _ _ _ _ _ _ _ (wipe .ensures) (wipe .kept .0) _ _ (c .before .before .before .list-needed .ensures) (start .pre)
 
 same-length : tie.Need-same-length
-same-length c = c .before .before .list .kept .0 ∙ c .before .before .before .before .before .before .list-needed .kept .0 ∙ c .before .before .before .before .before .before .before .before .before .before .wipe .kept .0
+same-length c = c .before .before .before .list .kept .0 ∙ c .before .before .before .before .before .before .before .list-needed .kept .0 ∙ c .before .before .before .before .before .before .before .before .before .before .before .wipe .kept .0
 
 returns : tie.Need-returns
 returns c =
-    let wipe = c .before .before .before .before .before .before .before .before .before .before .wipe in
-    let list-needed = c .before .before .before .before .before .before .list-needed in
-    orders _ _ _ _ _ _ _ (wipe .ensures) (wipe .kept .0) _ _ (list-needed .ensures) _ _ (c .before .before .list .ensures)
+    let wipe = c .before .before .before .before .before .before .before .before .before .before .before .wipe in
+    let list-needed = c .before .before .before .before .before .before .before .list-needed in
+    orders _ _ _ _ _ _ _ (wipe .ensures) (wipe .kept .0) _ _ (list-needed .ensures) _ _ (c .before .before .before .list .ensures)
 
 pub order-spec : {M : Type 1} → statement M
 order-spec =

@@ -24,9 +24,9 @@ same-length-2 c = search needs
 
 returns : tie.Need-returns
 returns c =
-    let order = c .before .before .before .before .before .before .before .before .before .before .before .before .before .order in
-    let emit = c .before .before .before .before .before .before .before .before .emit in
-    written _ _ _ _ _ _ _ _ (order .ensures) _ _ _ (emit .ensures) (c .before .before .before .before .before .if1 .taken) _ _ (c .before .before .emit2 .ensures)
+    let order = c .before .before .before .before .before .before .before .before .before .before .before .before .before .before .order in
+    let emit = c .before .before .before .before .before .before .before .before .before .emit in
+    written _ _ _ _ _ _ _ _ (order .ensures) _ _ _ (emit .ensures) (c .before .before .before .before .before .before .if1 .taken) _ _ (c .before .before .before .emit2 .ensures)
 
 same-length-3 : tie.Need-same-length-3
 same-length-3 c = search needs

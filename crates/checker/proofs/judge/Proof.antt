@@ -1,5 +1,4 @@
 -- The walk's refusal is the check's; its conclusion is the stated one, or not.
-use mathlib.Core.Path.{refl}
 use borrow.Author.Needs.{needs}
 use Rattle.checker.proofs.Judging.{judge-walks, judge-refused, judge-stands, judge-differs}
 use Rattle.checker.proofs.judge.Statement.{statement}
@@ -25,10 +24,10 @@ same-length-2 c = search needs
 
 returns : tie.Need-returns
 returns c =
-    let start = c .before .before .before .before .before .before .before .before .before .before .before .before .before .before .before .before in
-    let walk′ = c .before .before .before .before .before .before .before .before .before .walk in
-    let W = rw (c .before .before .before .p .given .1) at (walk′ .ensures) in
-    judge-stands _ _ _ _ _ _ _ _ (start .pre .long) (start .pre .small) _ _ _ _ _ W (walk′ .kept .0) _ _ (c .before .at .ensures) (c .if1 .taken) refl
+    let start = c .before .before .before .before .before .before .before .before .before .before .before .before .before .before .before .before .before in
+    let walk′ = c .before .before .before .before .before .before .before .before .before .before .walk in
+    let W = rw (c .before .before .before .before .p .given .1) at (walk′ .ensures) in
+    judge-stands _ _ _ _ _ _ _ _ (start .pre .long) (start .pre .small) _ _ _ _ _ W (walk′ .kept .0) _ (c .before .before .at .ensures) (c .before .if1 .taken)
 
 same-length-3 : tie.Need-same-length-3
 same-length-3 c = search needs

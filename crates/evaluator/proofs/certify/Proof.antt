@@ -11,8 +11,8 @@ write-requires c κs = search needs
 enum-known-n : tie.Need-enum-known-n
 enum-known-n c = search needs
 
-sub-t17 : tie.Need-sub-t17
-sub-t17 c = search needs
+sub-spent : tie.Need-sub-spent
+sub-spent c = search needs
 
 enum-told : tie.Need-enum-told
 enum-told c = search needs
@@ -26,7 +26,7 @@ same-length-2 c = search needs
 returns : tie.Need-returns
 unfolding told
 returns c =
-    certifies _ _ _ _ _ _ _ _ _ (c .before .before .before .before .before .before .before .before .write .ensures) _ (sym (ap (told _) (c .before .before .n .given .1)))
+    certifies _ _ _ _ _ _ _ _ _ (c .before .before .before .before .before .before .before .write .ensures) _ (sym (ap (told _) (c .before .n .given .1)))
 
 same-length-3 : tie.Need-same-length-3
 same-length-3 c = search needs
@@ -45,7 +45,7 @@ certify-spec =
     (tie.spec
     write-requires
     enum-known-n
-    sub-t17
+    sub-spent
     enum-told
     same-length
     same-length-2

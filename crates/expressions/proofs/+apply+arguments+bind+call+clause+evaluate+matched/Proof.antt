@@ -28,7 +28,7 @@ use Rattle.expressions.proofs.+apply+arguments+bind+call+clause+evaluat
 use Rattle.expressions.proofs.+apply+arguments+bind+call+clause+evaluate+matched.Proof.Arguments.{arguments-returns, arguments-at-requires, arguments-evaluate-requires, arguments-enum-known-v, arguments-bind-value-requires, arguments-add-arguments, arguments-sub-arguments, arguments-arguments-requires, arguments-enum-known-x, arguments-same-length, arguments-same-length-2, arguments-returns-2, arguments-same-length-3, arguments-same-length-4, arguments-returns-3}
 use Rattle.expressions.proofs.+apply+arguments+bind+call+clause+evaluate+matched.Proof.Bind.{bind-mul-at, bind-add-at, bind-at-requires, bind-evaluate-requires, bind-enum-known-v, bind-bind-value-requires, bind-mul-at-2, bind-add-at-2, bind-at-requires-2, bind-evaluate-requires-2, bind-enum-known-x, bind-same-length, bind-same-length-2, bind-returns, bind-same-length-3, bind-same-length-4, bind-returns-2}
 use Rattle.expressions.proofs.+apply+arguments+bind+call+clause+evaluate+matched.Proof.Call.{call-mul-at, call-add-at, call-at-requires, call-mul-at-2, call-add-at-2, call-at-requires-2, call-evaluate-requires, call-enum-known-v, call-scope-requires, call-mul-arguments, call-add-arguments, call-arguments-requires, call-enum-known-e, call-apply-requires, call-enum-known-x, call-enum-known-x-2, call-same-length, call-same-length-2, call-returns, call-same-length-3, call-same-length-4, call-returns-2, call-same-length-5, call-same-length-6, call-returns-3}
-use Rattle.expressions.proofs.+apply+arguments+bind+call+clause+evaluate+matched.Proof.Clause.{clause-mul-at, clause-add-at, clause-at-requires, clause-mul-choose, clause-add-choose, clause-choose-requires, clause-enum-known-body, clause-bind-parts-requires, clause-add-t24, clause-evaluate-requires, clause-enum-told, clause-same-length, clause-same-length-2, clause-returns, clause-same-length-3, clause-returns-2}
+use Rattle.expressions.proofs.+apply+arguments+bind+call+clause+evaluate+matched.Proof.Clause.{clause-mul-at, clause-add-at, clause-at-requires, clause-mul-choose, clause-add-choose, clause-choose-requires, clause-enum-known-body, clause-bind-parts-requires, clause-add-t25, clause-evaluate-requires, clause-enum-told, clause-same-length, clause-same-length-2, clause-returns, clause-same-length-3, clause-returns-2}
 use Rattle.expressions.proofs.+apply+arguments+bind+call+clause+evaluate+matched.Proof.Evaluate.{evaluate-returns, evaluate-returns-2, evaluate-sub-at, evaluate-mul-at, evaluate-at-requires, evaluate-sub-call, evaluate-call-requires, evaluate-same-length, evaluate-same-length-2, evaluate-returns-3, evaluate-sub-bind, evaluate-bind-requires, evaluate-same-length-3, evaluate-same-length-4, evaluate-returns-4, evaluate-sub-matched, evaluate-matched-requires, evaluate-same-length-5, evaluate-same-length-6, evaluate-returns-5, evaluate-plain-requires, evaluate-same-length-7, evaluate-returns-6}
 use Rattle.expressions.proofs.+apply+arguments+bind+call+clause+evaluate+matched.Proof.Matched.{matched-mul-at, matched-add-at, matched-at-requires, matched-evaluate-requires, matched-enum-known-v, matched-enum-known-v-2, matched-same-length, matched-same-length-2, matched-returns, matched-clause-requires, matched-enum-known-x, matched-same-length-3, matched-same-length-4, matched-returns-2, matched-same-length-5, matched-same-length-6, matched-returns-3}
 mod Falling
@@ -188,7 +188,7 @@ pub +apply+arguments+bind+call+clause+evaluate+matched-spec : {M : Type 1} → s
     (clause-choose-requires t)
     (clause-enum-known-body t)
     (clause-bind-parts-requires t)
-    (clause-add-t24 t)
+    (clause-add-t25 t)
     (clause-evaluate-requires t)
     (clause-enum-told t)
     (clause-same-length t)

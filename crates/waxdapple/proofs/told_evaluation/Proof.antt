@@ -12,19 +12,16 @@ slice-aggregate-accepted : tie.Need-slice-aggregate-accepted
 slice-aggregate-accepted c = search needs
 
 accepted-requires : tie.Need-accepted-requires
-accepted-requires c κs = tt
+accepted-requires c κs = search needs
 
-slice-aggregate-say : tie.Need-slice-aggregate-say
-slice-aggregate-say c = search needs
+slice-aggregate-told-accepted : tie.Need-slice-aggregate-told-accepted
+slice-aggregate-told-accepted c = search needs
 
-say-requires : tie.Need-say-requires
-say-requires c κs = tt
+slice-aggregate-told-accepted-2 : tie.Need-slice-aggregate-told-accepted-2
+slice-aggregate-told-accepted-2 c = sym (length-take-le _ _ (c .before .before .if1 .taken))
 
-slice-aggregate-given : tie.Need-slice-aggregate-given
-slice-aggregate-given c = sym (length-take-le _ _ (c .before .if1 .taken))
-
-given-requires : tie.Need-given-requires
-given-requires c κs = tt
+told-accepted-requires : tie.Need-told-accepted-requires
+told-accepted-requires c κs = search needs
 
 enum-known-evaluated-2 : tie.Need-enum-known-evaluated-2
 enum-known-evaluated-2 c = search needs
@@ -33,25 +30,25 @@ slice-aggregate-fails : tie.Need-slice-aggregate-fails
 slice-aggregate-fails c = search needs
 
 fails-requires : tie.Need-fails-requires
-fails-requires c κs = tt
+fails-requires c κs = search needs
 
-slice-aggregate-say-2 : tie.Need-slice-aggregate-say-2
-slice-aggregate-say-2 c = search needs
+slice-aggregate-say : tie.Need-slice-aggregate-say
+slice-aggregate-say c = search needs
 
-say-requires-2 : tie.Need-say-requires-2
-say-requires-2 c κs = tt
+say-requires : tie.Need-say-requires
+say-requires c κs = search needs
 
 in-phrase-requires : tie.Need-in-phrase-requires
-in-phrase-requires c κs = tt
+in-phrase-requires c κs = search needs
 
 returns : tie.Need-returns
-returns c = tt
+returns c = search needs
 
 returns-2 : tie.Need-returns-2
-returns-2 c = tt
+returns-2 c = search needs
 
 returns-3 : tie.Need-returns-3
-returns-3 c = tt
+returns-3 c = search needs
 
 pub told-evaluation-spec : {M : Type 1} → statement M
 told-evaluation-spec =
@@ -60,15 +57,14 @@ told-evaluation-spec =
     enum-known-evaluated
     slice-aggregate-accepted
     accepted-requires
-    slice-aggregate-say
-    say-requires
-    slice-aggregate-given
-    given-requires
+    slice-aggregate-told-accepted
+    slice-aggregate-told-accepted-2
+    told-accepted-requires
     enum-known-evaluated-2
     slice-aggregate-fails
     fails-requires
-    slice-aggregate-say-2
-    say-requires-2
+    slice-aggregate-say
+    say-requires
     in-phrase-requires
     returns
     returns-2

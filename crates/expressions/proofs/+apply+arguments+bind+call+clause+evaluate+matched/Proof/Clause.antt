@@ -39,12 +39,12 @@ clause-bind-parts-requires t c κs =
     let C = rw (c .before .before .body .given .1) at (c .before .before .before .before .choose .ensures) in
     parts-bindable _ _ _ _ _ _ (c .before .before .before .before .before .before .at .ensures) _ _ C (c .before .before .before .before .before .before .before .before .before .before .before .pre .1)
 
-pub clause-add-t24 : (t : ℕ) → clause-lts.Need-add-t24 (at-reads.Asked, at-reads.Learnt, choose-reads.Asked, choose-reads.Learnt, bind-parts-reads.Asked, bind-parts-reads.Learnt, evaluate-below t, evaluate.Post) (clause-at t) clause.Post
-clause-add-t24 t c =
-    let start = c .before .before .before .before .before .before .before .before .before .before .before .before .before .before .before in
-    let at1 = c .before .before .before .before .before .before .before .before .before .before .at in
-    let choose = c .before .before .before .before .before .before .before .before .choose in
-    let body = c .before .before .before .before .before .before .body in
+pub clause-add-t25 : (t : ℕ) → clause-lts.Need-add-t25 (at-reads.Asked, at-reads.Learnt, choose-reads.Asked, choose-reads.Learnt, bind-parts-reads.Asked, bind-parts-reads.Learnt, evaluate-below t, evaluate.Post) (clause-at t) clause.Post
+clause-add-t25 t c =
+    let start = c .before .before .before .before .before .before .before .before .before .before .before .before .before .before .before .before in
+    let at1 = c .before .before .before .before .before .before .before .before .before .before .before .at in
+    let choose = c .before .before .before .before .before .before .before .before .before .choose in
+    let body = c .before .before .before .before .before .before .before .body in
     let C = rw (body .given .1) at (choose .ensures) in
     let b = parts-bindable _ _ _ _ _ _ (at1 .ensures) _ _ C (start .pre .1) in
     let r = b .room in
@@ -52,9 +52,9 @@ clause-add-t24 t c =
 
 pub clause-evaluate-requires : (t : ℕ) → clause-lts.Need-evaluate-requires (at-reads.Asked, at-reads.Learnt, choose-reads.Asked, choose-reads.Learnt, bind-parts-reads.Asked, bind-parts-reads.Learnt, evaluate-below t, evaluate.Post) (clause-at t) clause.Post
 clause-evaluate-requires t c κs =
-    let pre = c .before .before .before .before .before .before .before .before .before .before .before .before .before .before .before .before .before .pre in
-    let C = rw (c .before .before .before .before .before .before .before .before .body .given .1) at (c .before .before .before .before .before .before .before .before .before .before .choose .ensures) in
-    (omega (arith, pre), clause-ready _ _ _ _ _ _ (c .before .before .before .before .before .before .before .before .before .before .before .before .at .ensures) _ _ C _ _ (c .before .before .before .before .before .bind-parts .ensures) (pre .1))
+    let pre = c .before .before .before .before .before .before .before .before .before .before .before .before .before .before .before .before .before .before .pre in
+    let C = rw (c .before .before .before .before .before .before .before .before .before .body .given .1) at (c .before .before .before .before .before .before .before .before .before .before .before .choose .ensures) in
+    (omega (arith, pre), clause-ready _ _ _ _ _ _ (c .before .before .before .before .before .before .before .before .before .before .before .before .before .at .ensures) _ _ C _ _ (c .before .before .before .before .before .before .bind-parts .ensures) (pre .1))
 
 pub clause-enum-told : (t : ℕ) → clause-lts.Need-enum-told (at-reads.Asked, at-reads.Learnt, choose-reads.Asked, choose-reads.Learnt, bind-parts-reads.Asked, bind-parts-reads.Learnt, evaluate-below t, evaluate.Post) (clause-at t) clause.Post
 clause-enum-told t c = search needs
@@ -63,15 +63,15 @@ pub clause-same-length : (t : ℕ) → clause-lts.Need-same-length (at-reads.Ask
 clause-same-length t c = search needs
 
 pub clause-same-length-2 : (t : ℕ) → clause-lts.Need-same-length-2 (at-reads.Asked, at-reads.Learnt, choose-reads.Asked, choose-reads.Learnt, bind-parts-reads.Asked, bind-parts-reads.Learnt, evaluate-below t, evaluate.Post) (clause-at t) clause.Post
-clause-same-length-2 t c = c .before .before .before .before .evaluate .kept .1 .0 ∙ c .before .before .before .before .before .before .before .before .before .before .bind-parts .kept .0
+clause-same-length-2 t c = c .before .before .before .before .evaluate .kept .1 .0 ∙ c .before .before .before .before .before .before .before .before .before .before .before .bind-parts .kept .0
 
 pub clause-returns : (t : ℕ) → clause-lts.Need-returns (at-reads.Asked, at-reads.Learnt, choose-reads.Asked, choose-reads.Learnt, bind-parts-reads.Asked, bind-parts-reads.Learnt, evaluate-below t, evaluate.Post) (clause-at t) clause.Post
 clause-returns t c =
-    let start = c .before .before .before .before .before .before .before .before .before .before .before .before .before .before .before .before .before .before .before .before .before .before in
-    let at1 = c .before .before .before .before .before .before .before .before .before .before .before .before .before .before .before .before .before .at in
-    let choose = c .before .before .before .before .before .before .before .before .before .before .before .before .before .before .before .choose in
-    let body = c .before .before .before .before .before .before .before .before .before .before .before .before .before .body in
-    let bind-parts = c .before .before .before .before .before .before .before .before .before .before .bind-parts in
+    let start = c .before .before .before .before .before .before .before .before .before .before .before .before .before .before .before .before .before .before .before .before .before .before .before in
+    let at1 = c .before .before .before .before .before .before .before .before .before .before .before .before .before .before .before .before .before .before .at in
+    let choose = c .before .before .before .before .before .before .before .before .before .before .before .before .before .before .before .before .choose in
+    let body = c .before .before .before .before .before .before .before .before .before .before .before .before .before .before .body in
+    let bind-parts = c .before .before .before .before .before .before .before .before .before .before .before .bind-parts in
     let C = rw (body .given .1) at (choose .ensures) in
     let b = parts-bindable _ _ _ _ _ _ (at1 .ensures) _ _ C (start .pre .1) in
     clause-runs _ _ _ _ _ _ (at1 .ensures) _ _ C _ _ (bind-parts .ensures) _ _ (b .room) (c .before .before .before .before .evaluate .ensures)

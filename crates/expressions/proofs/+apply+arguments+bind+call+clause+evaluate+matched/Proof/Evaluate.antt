@@ -23,7 +23,7 @@ pub evaluate-sub-at : (t : ℕ) → evaluate-lts.Need-sub-at (at-reads.Asked, at
 evaluate-sub-at t c = search needs
 
 pub evaluate-mul-at : (t : ℕ) → evaluate-lts.Need-mul-at (at-reads.Asked, at-reads.Learnt, call-below t, call.Post, bind-below t, bind.Post, matched-below t, matched.Post, plain-reads.Asked, plain-reads.Learnt) (evaluate-at t) evaluate.Post
-evaluate-mul-at t c = let s = ready-small _ _ _ _ _ _ (c .before .before .before .before .before .before .before .before .pre .1) in omega (arith, s)
+evaluate-mul-at t c = let s = ready-small _ _ _ _ _ _ (c .before .before .before .before .before .before .before .before .before .pre .1) in omega (arith, s)
 
 pub evaluate-at-requires : (t : ℕ) → evaluate-lts.Need-at-requires (at-reads.Asked, at-reads.Learnt, call-below t, call.Post, bind-below t, bind.Post, matched-below t, matched.Post, plain-reads.Asked, plain-reads.Learnt) (evaluate-at t) evaluate.Post
 evaluate-at-requires t c κs = search needs
@@ -33,7 +33,7 @@ evaluate-sub-call t c = search needs
 
 pub evaluate-call-requires : (t : ℕ) → evaluate-lts.Need-call-requires (at-reads.Asked, at-reads.Learnt, call-below t, call.Post, bind-below t, bind.Post, matched-below t, matched.Post, plain-reads.Asked, plain-reads.Learnt) (evaluate-at t) evaluate.Post
 evaluate-call-requires t c κs =
-    let pre = c .before .before .before .before .before .before .before .before .before .before .before .before .pre in
+    let pre = c .before .before .before .before .before .before .before .before .before .before .before .before .before .pre in
     (omega (arith, pre, c .before .before .before .before .before .if2 .left), (ready-spent _ _ _ _ (c .before .before .before .before .before .before .if1 .left) (pre .1), sym (c .before .before .before .at .ensures) ∙ c .before .before .if3 .taken))
 
 pub evaluate-same-length : (t : ℕ) → evaluate-lts.Need-same-length (at-reads.Asked, at-reads.Learnt, call-below t, call.Post, bind-below t, bind.Post, matched-below t, matched.Post, plain-reads.Asked, plain-reads.Learnt) (evaluate-at t) evaluate.Post
@@ -53,7 +53,7 @@ evaluate-sub-bind t c = search needs
 
 pub evaluate-bind-requires : (t : ℕ) → evaluate-lts.Need-bind-requires (at-reads.Asked, at-reads.Learnt, call-below t, call.Post, bind-below t, bind.Post, matched-below t, matched.Post, plain-reads.Asked, plain-reads.Learnt) (evaluate-at t) evaluate.Post
 evaluate-bind-requires t c κs =
-    let start = c .before .before .before .before .before .before .before .before .before .before .before .before .before in
+    let start = c .before .before .before .before .before .before .before .before .before .before .before .before .before .before in
     let if1 = c .before .before .before .before .before .before .before .if1 in
     let if2 = c .before .before .before .before .before .before .if2 in
     let pre = start .pre in
@@ -76,7 +76,7 @@ evaluate-sub-matched t c = search needs
 
 pub evaluate-matched-requires : (t : ℕ) → evaluate-lts.Need-matched-requires (at-reads.Asked, at-reads.Learnt, call-below t, call.Post, bind-below t, bind.Post, matched-below t, matched.Post, plain-reads.Asked, plain-reads.Learnt) (evaluate-at t) evaluate.Post
 evaluate-matched-requires t c κs =
-    let start = c .before .before .before .before .before .before .before .before .before .before .before .before .before .before in
+    let start = c .before .before .before .before .before .before .before .before .before .before .before .before .before .before .before in
     let if1 = c .before .before .before .before .before .before .before .before .if1 in
     let if2 = c .before .before .before .before .before .before .before .if2 in
     let pre = start .pre in
@@ -96,7 +96,7 @@ evaluate-returns-5 t c =
 
 pub evaluate-plain-requires : (t : ℕ) → evaluate-lts.Need-plain-requires (at-reads.Asked, at-reads.Learnt, call-below t, call.Post, bind-below t, bind.Post, matched-below t, matched.Post, plain-reads.Asked, plain-reads.Learnt) (evaluate-at t) evaluate.Post
 evaluate-plain-requires t c κs =
-    let start = c .before .before .before .before .before .before .before .before .before .before .before .before .before in
+    let start = c .before .before .before .before .before .before .before .before .before .before .before .before .before .before in
     let if1 = c .before .before .before .before .before .before .before .if1 in
     let at1 = c .before .before .before .before .at in
     let pre = start .pre in

@@ -1,29 +1,46 @@
--- `decimals::turn` meets its contract: the test picks the case of the definition.
-use mathlib.Core.Path.{refl, sym, _∙_}
-use Rattle.wording.proofs.Decoding.{turn-white, turn-other}
+-- `decimals::turn` meets its contract: what was said before picks the case of the definition.
+use Rattle.wording.specs.Page.{write}
+use Rattle.wording.specs.Decimals.{next, ends}
 use borrow.Author.Needs.{needs}
 use Rattle.wording.proofs.decimals.turn.Statement.{statement}
 use Rattle.wording.proofs.decimals.turn.Tie as tie
 
-is-white-requires : tie.Need-is-white-requires
-is-white-requires c κs = search needs
+enum-known-said : tie.Need-enum-known-said
+enum-known-said c = search needs
 
-ended-requires : tie.Need-ended-requires
-ended-requires c κs = search needs
+character-requires : tie.Need-character-requires
+character-requires c κs = search needs
+
+enum-known-said-2 : tie.Need-enum-known-said-2
+enum-known-said-2 c = search needs
+
+enum-known-said-3 : tie.Need-enum-known-said-3
+enum-known-said-3 c = search needs
 
 same-length : tie.Need-same-length
 same-length c = search needs
 
 returns : tie.Need-returns
-returns c = (c .before .before .ended .ensures .0, turn-white _ _ _ _ _ _ _ (sym (c .before .before .before .before .before .is-white .ensures) ∙ c .before .before .before .before .if1 .taken) (c .before .before .ended .ensures .1 .0) (c .before .before .ended .ensures .1 .1))
-
-other-requires : tie.Need-other-requires
-other-requires c κs = search needs
+unfolding next ends
+returns c = let e = c .before .before .before .before .before .said .given .1 in (rw e (c .before .before .character .ensures .0), rw e (c .before .before .character .ensures .1))
 
 returns-2 : tie.Need-returns-2
-returns-2 c = (c .other .ensures .0, turn-other _ _ _ _ _ _ _ (sym (c .before .before .is-white .ensures) ∙ c .before .if1 .left) (c .other .ensures .1) refl)
+unfolding next ends write
+returns-2 c = let e = c .before .said2 .given .1 in (rw e, rw e)
+
+returns-3 : tie.Need-returns-3
+unfolding next ends write
+returns-3 c = let e = c .before .said3 .given .1 in (rw e, rw e)
 
 pub turn-spec : {M : Type 1} → statement M
 turn-spec =
     tie.close
-    (tie.spec is-white-requires ended-requires same-length returns other-requires returns-2)
+    (tie.spec
+    enum-known-said
+    character-requires
+    enum-known-said-2
+    enum-known-said-3
+    same-length
+    returns
+    returns-2
+    returns-3)

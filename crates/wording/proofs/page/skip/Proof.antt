@@ -1,5 +1,6 @@
 -- `page::skip` meets its contract: at each turn what stands past the bars from the start is what stands past those left from here.
 use Prim.Native.Nat.{_-_}
+use mathlib.Core.Path.{refl}
 use lib.ListN.{length}
 use Rattle.wording.proofs.Pieces.{Passing, pass-start, pass-none, pass-more, pass-end}
 use borrow.Author.Needs.{needs}
@@ -18,11 +19,8 @@ loop-holds c = pass-start _ _
 returns : tie.Need-returns Inv-loop μ-loop
 returns c = pass-none _ _ _ _ (c .before .before .loop .inv) (c .if1 .taken)
 
-shared-slice-read-wide : tie.Need-shared-slice-read-wide Inv-loop μ-loop
-shared-slice-read-wide c = search needs
-
-wide-requires : tie.Need-wide-requires Inv-loop μ-loop
-wide-requires c κs = search needs
+shared-slice-read-passed : tie.Need-shared-slice-read-passed Inv-loop μ-loop
+shared-slice-read-passed c = search needs
 
 passed-requires : tie.Need-passed-requires Inv-loop μ-loop
 passed-requires c κs = search needs
@@ -34,7 +32,7 @@ loop-less : tie.Need-loop-less Inv-loop μ-loop
 loop-less c = search needs
 
 loop-again : tie.Need-loop-again Inv-loop μ-loop
-loop-again c = pass-more _ _ _ _ (c .before .before .before .before .before .loop .inv) _ _ (c .before .wide .ensures .0) (c .before .before .before .before .loop-test .taken) (c .before .before .before .if1 .left) (c .passed .ensures)
+loop-again c = pass-more _ _ _ _ (c .before .before .before .before .loop .inv) _ _ refl (c .before .before .before .loop-test .taken) (c .before .before .if1 .left) (c .passed .ensures)
 
 returns-2 : tie.Need-returns-2 Inv-loop μ-loop
 returns-2 c = pass-end _ _ _ _ (c .before .loop .inv) (c .loop-test .left)
@@ -47,8 +45,7 @@ skip-spec =
     μ-loop
     loop-holds
     returns
-    shared-slice-read-wide
-    wide-requires
+    shared-slice-read-passed
     passed-requires
     add-i
     loop-less

@@ -15,7 +15,7 @@ same-length c = search needs
 
 returns : tie.Need-returns
 unfolding piece
-returns c = rw (c .before .before .before .skip .ensures) (c .before .before .up-to .ensures)
+returns c = rw (c .before .before .before .skip .ensures .0) (c .before .before .up-to .ensures)
 
 pub words-spec : {M : Type 1} → statement M
 words-spec = tie.close (tie.spec skip-requires up-to-requires same-length returns)

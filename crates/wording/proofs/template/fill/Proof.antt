@@ -15,7 +15,7 @@ same-length c = search needs
 
 returns : tie.Need-returns
 unfolding piece
-returns c = rw (c .before .before .before .skip .ensures) (c .before .before .fill-from .ensures)
+returns c = rw (c .before .before .before .skip .ensures .0) (c .before .before .fill-from .ensures)
 
 pub fill-spec : {M : Type 1} → statement M
 fill-spec = tie.close (tie.spec skip-requires fill-from-requires same-length returns)

@@ -1,7 +1,6 @@
 -- `template::fill_from` meets its contract: at each turn what is to be written from the start is what is to be written from here.
 use Prim.Native.Nat.{_-_}
 use lib.ListN.{length}
-use mathlib.Core.Path.{refl}
 use Rattle.wording.proofs.Filling.{At, at-start, at-bar, at-more, at-end}
 use borrow.Author.Needs.{needs}
 use Rattle.wording.proofs.template.fill_from.Statement.{statement}
@@ -16,17 +15,14 @@ abbrev μ-loop : tie.MeasureT-loop
 loop-holds : tie.Need-loop-holds Inv-loop μ-loop
 loop-holds c = at-start _ _ _ _ _
 
-shared-slice-read-wide : tie.Need-shared-slice-read-wide Inv-loop μ-loop
-shared-slice-read-wide c = search needs
-
-wide-requires : tie.Need-wide-requires Inv-loop μ-loop
-wide-requires c κs = search needs
+shared-slice-read-if1 : tie.Need-shared-slice-read-if1 Inv-loop μ-loop
+shared-slice-read-if1 c = search needs
 
 same-length : tie.Need-same-length Inv-loop μ-loop
-same-length c = c .before .before .before .before .loop .inv .kept
+same-length c = c .before .before .before .loop .inv .kept
 
 returns : tie.Need-returns Inv-loop μ-loop
-returns c = at-bar _ _ _ _ _ _ _ _ (c .before .before .before .before .loop .inv) _ (c .before .wide .ensures .0) (c .before .before .before .loop-test .taken) (c .if1 .taken)
+returns c = at-bar _ _ _ _ _ _ _ _ (c .before .before .before .loop .inv) (c .before .before .loop-test .taken) (c .if1 .taken)
 
 shared-slice-read-part : tie.Need-shared-slice-read-part Inv-loop μ-loop
 shared-slice-read-part c = search needs
@@ -41,11 +37,7 @@ loop-less : tie.Need-loop-less Inv-loop μ-loop
 loop-less c = search needs
 
 loop-again : tie.Need-loop-again Inv-loop μ-loop
-loop-again c =
-    let loop = c .before .before .before .before .before .before .before .before .before .loop in
-    let loop-test = c .before .before .before .before .before .before .before .before .loop-test in
-    let wide = c .before .before .before .before .before .before .wide in
-    at-more _ _ _ _ _ _ _ _ (loop .inv) _ _ _ _ (wide .ensures .0) refl (loop-test .taken) (c .before .before .before .before .before .if1 .left) (c .before .before .part .ensures) (c .before .before .part .kept .0)
+loop-again c = at-more _ _ _ _ _ _ _ _ (c .before .before .before .before .before .before .before .before .loop .inv) _ _ (c .before .before .before .before .before .before .before .loop-test .taken) (c .before .before .before .before .before .if1 .left) (c .before .before .part .ensures) (c .before .before .part .kept .0)
 
 same-length-2 : tie.Need-same-length-2 Inv-loop μ-loop
 same-length-2 c = c .before .loop .inv .kept
@@ -60,8 +52,7 @@ fill-from-spec =
     Inv-loop
     μ-loop
     loop-holds
-    shared-slice-read-wide
-    wide-requires
+    shared-slice-read-if1
     same-length
     returns
     shared-slice-read-part

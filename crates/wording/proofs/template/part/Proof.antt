@@ -4,9 +4,6 @@ use borrow.Author.Needs.{needs}
 use Rattle.wording.proofs.template.part.Statement.{statement}
 use Rattle.wording.proofs.template.part.Tie as tie
 
-wide-requires : tie.Need-wide-requires
-wide-requires c κs = search needs
-
 told-requires : tie.Need-told-requires
 told-requires c κs = search needs
 
@@ -14,7 +11,7 @@ same-length : tie.Need-same-length
 same-length c = search needs
 
 returns : tie.Need-returns
-returns c = part-told _ _ _ (c .before .before .before .before .before .before .wide .ensures .0) _ _ (c .before .before .before .before .before .if1 .taken) (c .before .before .before .before .if2 .taken) (c .before .before .told .ensures)
+returns c = part-told _ _ _ _ (c .before .before .before .before .before .if1 .taken) (c .before .before .before .before .if2 .taken) (c .before .before .told .ensures)
 
 put-requires : tie.Need-put-requires
 put-requires c κs = search needs
@@ -23,7 +20,7 @@ same-length-2 : tie.Need-same-length-2
 same-length-2 c = search needs
 
 returns-2 : tie.Need-returns-2
-returns-2 c = part-high _ _ _ (c .before .before .before .before .before .before .wide .ensures .0) _ _ (c .before .before .before .before .before .if1 .taken) (c .before .before .before .before .if2 .left) (c .before .before .put .ensures)
+returns-2 c = part-high _ _ _ _ (c .before .before .before .before .before .if1 .taken) (c .before .before .before .before .if2 .left) (c .before .before .put .ensures)
 
 put-requires-2 : tie.Need-put-requires-2
 put-requires-2 c κs = search needs
@@ -32,13 +29,12 @@ same-length-3 : tie.Need-same-length-3
 same-length-3 c = search needs
 
 returns-3 : tie.Need-returns-3
-returns-3 c = part-low _ _ _ (c .before .before .before .before .before .wide .ensures .0) _ _ (c .before .before .before .before .if1 .left) (c .before .before .put2 .ensures)
+returns-3 c = part-low _ _ _ _ (c .before .before .before .before .if1 .left) (c .before .before .put2 .ensures)
 
 pub part-spec : {M : Type 1} → statement M
 part-spec =
     tie.close
     (tie.spec
-    wide-requires
     told-requires
     same-length
     returns

@@ -6,8 +6,11 @@ use borrow.Author.Needs.{needs}
 use Rattle.wording.proofs.template.told.Statement.{statement}
 use Rattle.wording.proofs.template.told.Tie as tie
 
-sub-fact : tie.Need-sub-fact
-sub-fact c = search needs
+sub-wide : tie.Need-sub-wide
+sub-wide c = search needs
+
+wide-requires : tie.Need-wide-requires
+wide-requires c κs = search needs
 
 fact-requires : tie.Need-fact-requires
 fact-requires c κs = search needs
@@ -20,7 +23,7 @@ same-length c = search needs
 
 returns : tie.Need-returns
 unfolding Templates·told pick
-returns c = rw (le-leb _ _ (c .before .before .before .before .before .if1 .taken), ← c .before .before .before .fact .ensures) (c .before .before .number .ensures)
+returns c = rw (le-leb _ _ (c .before .before .before .before .before .before .if1 .taken), ← c .before .before .before .before .wide .ensures .0, ← c .before .before .before .fact .ensures) (c .before .before .number .ensures)
 
 fact-requires-2 : tie.Need-fact-requires-2
 fact-requires-2 c κs = search needs
@@ -93,7 +96,8 @@ pub told-spec : {M : Type 1} → statement M
 told-spec =
     tie.close
     (tie.spec
-    sub-fact
+    sub-wide
+    wide-requires
     fact-requires
     number-requires
     same-length

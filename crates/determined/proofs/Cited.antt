@@ -1,1 +1,0 @@
--- The laws of single contracts that stand in the crates of those contracts: specs/Once.antt says which public function each is for.
