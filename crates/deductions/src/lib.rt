@@ -5,6 +5,7 @@
 // makes of its arguments is in inference.rt, what is bound and joined of an operand in operands.rt.
 // For each evaluation begun at most four propositions, four bindings, eleven tokens and one number on the base are used, so that nothing is
 // refused for want of room (specs/Meets.antt).
+#![tactic(auto)]
 ghost use Rattle.std.specs.Prelude.{◌≡◌, ◌<◌, ◌≤◌};
 ghost use Rattle.expressions.specs.Machine.{shared, kind};
 ghost use Rattle.deductions.specs.Machine.{mk, begun, out_of, operand_of};

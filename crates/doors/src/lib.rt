@@ -4,3 +4,4 @@
 // specs/Demands.antt has the statements, in the order of the three demands; proofs/Demanded.antt proves them.
 // specs/Wrong.antt has doors that the contracts shut out, each by what it does; proofs/ShutOut.antt and
 // proofs/ShutOutChecks.antt refute them, and proofs/WrongDoors.antt has a door for each.
+#![tactic(auto)]

@@ -1,6 +1,7 @@
 // What document 01 fixes for evaluator and checker alike: its two currencies, the answers of its doors, the numbers of refusals and rules, and the one
 // table of argument counts.
 // The definitions themselves are in specs/; contracts of every crate cite them.
+#![tactic(auto)]
 ghost use Rattle.std.specs.Prelude.{◌≡◌, get_or};
 ghost use Rattle.language.specs.Rules.{arity};
 

@@ -2,6 +2,7 @@
 // Reading gives the number and the place past it, or the refusal that the definition names, at the number's place.
 // A cursor keeps the lent bytes with its place. Its functions are thin, each over one of bytes and a place; `read`, `read_from` and `read_below` make one for a caller that has bytes and a place.
 // Writing stores the shortest form straight into the output; proofs/ReadBack.antt shows that reading it there gives the number.
+#![tactic(auto)]
 ghost use Rattle.std.specs.Prelude.{◌≡◌, ◌+◌, ◌<◌, ◌≤◌, length};
 ghost use Rattle.std.proofs.lemmas.List.Edits.{sets};
 ghost use Rattle.language.specs.Numbers.{number, second, third, groups, from, below};

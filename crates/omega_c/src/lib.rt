@@ -1,5 +1,6 @@
 // The two doors for C: `waxdapple_evaluate` and `waxdapple_check`, with the doors' contracts. A slice is a pointer and a length.
 // The answer is a number, 0 for acceptance, and values behind pointers (include/waxdapple.h); what a refusal has no value for is 0.
+#![tactic(auto)]
 ghost use Rattle.std.specs.Prelude.{◌≡◌, [], ◌∷◌};
 ghost use Rattle.evaluator.specs.Door.{scratch};
 ghost use Rattle.omega_c.specs.Answers.{Evaluation, Check};

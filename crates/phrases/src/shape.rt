@@ -5,7 +5,7 @@ ghost use Rattle.phrases.specs.Shapes.{shape_of};
 use records::phrase_kind;
 
 // One operand: a number in its range, or an earlier phrase of a class.
-#[derive(Drop)]
+#[derive(Clone, Copy)]
 pub enum Operand {
     Variable,
     Constructor,

@@ -2,6 +2,7 @@
 // Each number is judged when it is read, and a refusal has the number and the place that document 01 gives it.
 // Nothing is assumed of the bytes. A refused record leaves its table as it was.
 // A name is a proposition's number in the table of formed propositions; patterns and phrases are rows of numbers (specs/Rows.antt).
+#![tactic(auto)]
 pub mod names;
 pub mod pattern_kind;
 pub mod patterns;

@@ -8,15 +8,19 @@
 //     E BUDGET ROOM SHEET       evaluates, with ROOM bytes of output: E 0 LENGTH WORK INFERENCES CERTIFICATE; or E NUMBER PLACE
 //     T TOKENS BUDGET ROOM SHEET    the same, with a buffer of TOKENS numbers lent for the certificate's tokens
 // Bytes are in hexadecimal, numbers in decimal; a dash stands for no bytes. A line that is no request, or is over 140,000 characters long, gets the line ?.
-ghost use Rattle.std.specs.Prelude.{◌≡◌, ◌<◌, ◌≤◌, length};
+// A read or a write that fails ends the program with its error.
+#![tactic(auto)]
+
+ghost use Rattle.std.specs.Prelude.{◌≡◌, ◌<◌, ◌≤◌, IfOk, length};
 
 use bindings::Value;
 use expressions::{Outcome, State};
 use language::{Checked, Evaluated, Inferences, Remaining, Work};
-use libc::STDOUT_FILENO;
 use reader::SheetRead;
 use records::{phrase_kind, rows};
 use requests::{Decimal, Hex};
+use std::io;
+use std::io::Read;
 
 // A line is shorter.
 const LINE: usize = 140001;
@@ -27,6 +31,9 @@ const FIELD: usize = 70000;
 // More room for a certificate changes no answer: none is as long (`longest_accepted` of `theorems`).
 const ROOM: usize = 65536;
 
+// What is read at once.
+const PIECE: usize = 65536;
+
 // How much of a line is held, and whether the input has ended.
 #[derive(Drop)]
 struct Taken {
@@ -34,129 +41,152 @@ struct Taken {
     ended: bool,
 }
 
-fn main() {
+fn main(rt: HostRuntime) -> io::Result<()> {
+    let mut input = rt.reader();
     let mut line = [0u8; LINE];
     let mut long = 0;
     let mut turns = u64::MAX;
     while turns > 0 {
-        let taken = take_in(&mut line, long);
+        let taken = take_in(&rt, &mut input, &mut line, long)?;
         if taken.ended {
-            return last(&line, taken.long);
+            return last(&rt, &line, taken.long);
         }
         long = taken.long;
         turns -= 1;
     }
+    Ok(())
 }
 
 // Reads on, and answers each line that is then whole; the line that is not is kept.
-fn take_in(line: &mut [u8], long: usize) -> Taken {
-    let mut input = io::large_buffer();
-    let n = io::read_full(0, &mut input);
-    Taken {
-        long: lines(line, long, &input[..n]),
+fn take_in(
+    rt: &impl Print,
+    input: &mut impl Read,
+    line: &mut [u8],
+    long: usize,
+) -> io::Result<Taken> {
+    let mut piece = [0u8; PIECE];
+    let n = read_full(input, &mut piece)?;
+    Ok(Taken {
+        long: lines(rt, line, long, &piece[..n])?,
         ended: n == 0,
+    })
+}
+
+// Reads until the buffer is full or the input ends; how many bytes that gave.
+fn read_full(input: &mut impl Read, buffer: &mut [u8]) -> io::Result<usize>
+    ensures { IfOk result (λ n. n ≤ length buffer.new) }
+{
+    let mut done = 0;
+    while done < buffer.len() {
+        let n = input.read(&mut buffer[done..])?;
+        if n == 0 {
+            return Ok(done);
+        }
+        done += n;
     }
+    Ok(done)
 }
 
 // The answer to a last line that has no end, where there is one.
-fn last(line: &[u8], k: usize) {
+fn last(rt: &impl Print, line: &[u8], k: usize) -> io::Result<()> {
     if 0 < k {
-        respond(line, k);
+        respond(rt, line, k)?;
     }
+    Ok(())
 }
 
 // Adds characters to the line; the answer is how much of it is then held.
-fn lines(line: &mut [u8], long: usize, input: &[u8]) -> usize {
+fn lines(rt: &impl Print, line: &mut [u8], long: usize, input: &[u8]) -> io::Result<usize> {
     let mut k = long;
     let mut i = 0;
     while i < input.len() {
-        k = added(line, k, input[i]);
+        k = added(rt, line, k, input[i])?;
         i += 1;
     }
-    k
+    Ok(k)
 }
 
 // Adds a character; a line's end has the line answered. A line that is too long fills the buffer.
-fn added(line: &mut [u8], k: usize, c: u8) -> usize {
+fn added(rt: &impl Print, line: &mut [u8], k: usize, c: u8) -> io::Result<usize> {
     if c == b'\n' {
-        respond(line, k);
-        return 0;
+        respond(rt, line, k)?;
+        return Ok(0);
     }
     if k < line.len() {
         line[k] = c;
-        return k + 1;
+        return Ok(k + 1);
     }
-    k
+    Ok(k)
 }
 
 // The answer to the first k characters of a line.
-fn respond(line: &[u8], k: usize) {
+fn respond(rt: &impl Print, line: &[u8], k: usize) -> io::Result<()> {
     if k < line.len() {
-        if is_answered(&line[..k]) {
-            return;
+        if is_answered(rt, &line[..k])? {
+            return Ok(());
         }
     }
-    io::write_all(STDOUT_FILENO, b"?\n");
+    rt.write_all(b"?\n")
 }
 
 // Whether a line is a request; if so its answer is written.
-fn is_answered(line: &[u8]) -> bool {
+fn is_answered(rt: &impl Print, line: &[u8]) -> io::Result<bool> {
     if line.len() < 3 {
-        return false;
+        return Ok(false);
     }
     if line[1] != b' ' {
-        return false;
+        return Ok(false);
     }
     if line[0] == b'S' {
-        return is_sheet(line, false);
+        return is_sheet(rt, line, false);
     }
     if line[0] == b'V' {
-        return is_sheet(line, true);
+        return is_sheet(rt, line, true);
     }
     if line[0] == b'C' {
-        return is_check(line);
+        return is_check(rt, line);
     }
     if line[0] == b'E' {
-        return is_evaluation(line, 2, evaluator::TOKENS);
+        return is_evaluation(rt, line, 2, evaluator::TOKENS);
     }
     if line[0] == b'T' {
-        return is_lent(line);
+        return is_lent(rt, line);
     }
-    false
+    Ok(false)
 }
 
 // V SHEET where values are asked for, else S SHEET.
-fn is_sheet(line: &[u8], values: bool) -> bool {
+fn is_sheet(rt: &impl Print, line: &[u8], values: bool) -> io::Result<bool> {
     let mut bytes = [0u8; FIELD];
     let to = requests::field_end(line, 2);
     if to < line.len() {
-        return false;
+        return Ok(false);
     }
     match requests::read_hex(&mut bytes, line, 2, to) {
         Hex::Bytes(n) => {
-            answer_either(&bytes[..n], values);
-            true
+            answer_either(rt, &bytes[..n], values)?;
+            Ok(true)
         }
-        Hex::Malformed => false,
+        Hex::Malformed => Ok(false),
     }
 }
 
 // The answer to V SHEET where values are asked for, else to S SHEET.
-fn answer_either(sheet: &[u8], values: bool) {
+fn answer_either(rt: &impl Print, sheet: &[u8], values: bool) -> io::Result<()> {
     if values {
-        return answer_values(sheet);
+        return answer_values(rt, sheet);
     }
-    answer_sheet(sheet)
+    answer_sheet(rt, sheet)
 }
 
 // The answer to S SHEET.
-fn answer_sheet(sheet: &[u8]) {
+fn answer_sheet(rt: &impl Print, sheet: &[u8]) -> io::Result<()> {
     let mut names = [0u32; reader::NAMES];
     let mut forms = [0u32; reader::FORMS];
     let mut patterns = [0u32; reader::PATTERNS];
     let mut phrases = [0u32; reader::PHRASES];
     let mut base = [0u32; reader::BASE];
-    io::write_all(STDOUT_FILENO, b"S");
+    rt.write_all(b"S")?;
     match reader::read_sheet(
         &mut names,
         &mut forms,
@@ -166,23 +196,23 @@ fn answer_sheet(sheet: &[u8]) {
         sheet,
     ) {
         SheetRead::Read(c) => {
-            number(0);
-            number(c.props);
-            number(c.patterns);
-            number(c.phrases);
-            number(c.base);
-            number(c.root);
+            number(rt, 0)?;
+            number(rt, c.props)?;
+            number(rt, c.patterns)?;
+            number(rt, c.phrases)?;
+            number(rt, c.base)?;
+            number(rt, c.root)?;
         }
         SheetRead::Refused(why, place) => {
-            number(why);
-            number(place);
+            number(rt, why)?;
+            number(rt, place)?;
         }
     }
-    io::write_all(STDOUT_FILENO, b"\n");
+    rt.write_all(b"\n")
 }
 
 // The answer to V SHEET: the sheet is read anew for each phrase.
-fn answer_values(sheet: &[u8]) {
+fn answer_values(rt: &impl Print, sheet: &[u8]) -> io::Result<()> {
     let mut names = [0u32; reader::NAMES];
     let mut forms = [0u32; evaluator::FORMS];
     let mut patterns = [0u32; reader::PATTERNS];
@@ -192,6 +222,7 @@ fn answer_values(sheet: &[u8]) {
     let mut k = 0;
     while k < reader::parts::MOST_PHRASES {
         answer_phrase(
+            rt,
             &mut names,
             &mut forms,
             &mut patterns,
@@ -200,13 +231,15 @@ fn answer_values(sheet: &[u8]) {
             &mut binds,
             sheet,
             k,
-        );
+        )?;
         k += 1;
     }
+    Ok(())
 }
 
 // The line for phrase k, where the sheet reads and the phrase is an expression.
 fn answer_phrase(
+    rt: &impl Print,
     names: &mut [u32],
     forms: &mut [u32],
     patterns: &mut [u32],
@@ -215,7 +248,7 @@ fn answer_phrase(
     binds: &mut [u32],
     sheet: &[u8],
     k: usize,
-)
+) -> io::Result<()>
     requires { (length names.old ≡ 512) × (length forms.old ≡ 4610) × (length patterns.old ≡ 640) × (length phrases.old ≡ 6144) × (length base.old ≡ 64) × (length binds.old ≡ 16384) × (k < 512) }
 {
     match reader::read_sheet(names, forms, patterns, phrases, base, sheet) {
@@ -227,7 +260,8 @@ fn answer_phrase(
                         bindings: 0,
                         remaining: Remaining(evaluator::BUDGET),
                     };
-                    print_value(
+                    return print_value(
+                        rt,
                         k,
                         expressions::evaluate(
                             forms,
@@ -242,84 +276,85 @@ fn answer_phrase(
                     );
                 }
             }
+            Ok(())
         }
-        SheetRead::Refused(why, place) => {}
+        SheetRead::Refused(why, place) => Ok(()),
     }
 }
 
 // The line for phrase k and what its evaluation gave.
-fn print_value(k: usize, outcome: Outcome) {
-    io::write_all(STDOUT_FILENO, b"V");
-    number(k);
+fn print_value(rt: &impl Print, k: usize, outcome: Outcome) -> io::Result<()> {
+    rt.write_all(b"V")?;
+    number(rt, k)?;
     match outcome {
         Outcome::Done(v, st) => {
-            number(0);
-            value(v);
+            number(rt, 0)?;
+            value(rt, v)?;
             let left = st.remaining;
-            number(left.0);
+            number(rt, left.0)?;
         }
         Outcome::Refused(why, place) => {
-            number(why);
-            number(place);
+            number(rt, why)?;
+            number(rt, place)?;
         }
     }
-    io::write_all(STDOUT_FILENO, b"\n");
+    rt.write_all(b"\n")
 }
 
 // A value's kind and number.
-fn value(v: Value) {
+fn value(rt: &impl Print, v: Value) -> io::Result<()> {
     match v {
-        Value::Prop(p) => two(0, p),
-        Value::Constructor(c) => two(1, c),
-        Value::Rule(r) => two(2, r),
-        Value::Function(f) => two(3, f.phrase),
-        Value::Method(m) => two(4, m.phrase),
+        Value::Prop(p) => two(rt, 0, p),
+        Value::Constructor(c) => two(rt, 1, c),
+        Value::Rule(r) => two(rt, 2, r),
+        Value::Function(f) => two(rt, 3, f.phrase),
+        Value::Method(m) => two(rt, 4, m.phrase),
     }
 }
 
 // Two numbers, each after a blank.
-fn two(a: usize, b: usize) {
-    number(a);
-    number(b);
+fn two(rt: &impl Print, a: usize, b: usize) -> io::Result<()> {
+    number(rt, a)?;
+    number(rt, b)
 }
 
 // C SHEET CERTIFICATE.
-fn is_check(line: &[u8]) -> bool {
+fn is_check(rt: &impl Print, line: &[u8]) -> io::Result<bool> {
     let mut sheet = [0u8; FIELD];
     let to = requests::field_end(line, 2);
     if to < line.len() {
         return match requests::read_hex(&mut sheet, line, 2, to) {
-            Hex::Bytes(n) => is_certificate(&sheet[..n], line, to + 1),
-            Hex::Malformed => false,
+            Hex::Bytes(n) => is_certificate(rt, &sheet[..n], line, to + 1),
+            Hex::Malformed => Ok(false),
         };
     }
-    false
+    Ok(false)
 }
 
 // The certificate of such a line, from a place on.
-fn is_certificate(sheet: &[u8], line: &[u8], from: usize) -> bool {
+fn is_certificate(rt: &impl Print, sheet: &[u8], line: &[u8], from: usize) -> io::Result<bool> {
     let mut certificate = [0u8; FIELD];
     let to = requests::field_end(line, from);
     if to < line.len() {
-        return false;
+        return Ok(false);
     }
     match requests::read_hex(&mut certificate, line, from, to) {
         Hex::Bytes(n) => {
-            answer_check(sheet, &certificate[..n]);
-            true
+            answer_check(rt, sheet, &certificate[..n])?;
+            Ok(true)
         }
-        Hex::Malformed => false,
+        Hex::Malformed => Ok(false),
     }
 }
 
 // The answer to C SHEET CERTIFICATE.
-fn answer_check(sheet: &[u8], certificate: &[u8]) {
+fn answer_check(rt: &impl Print, sheet: &[u8], certificate: &[u8]) -> io::Result<()> {
     let mut names = [0u32; checker::NAMES];
     let mut forms = [0u32; checker::FORMS];
     let mut patterns = [0u32; checker::PATTERNS];
     let mut phrases = [0u32; checker::PHRASES];
     let mut base = [0u32; checker::BASE];
-    io::write_all(STDOUT_FILENO, b"C");
+    rt.write_all(b"C")?;
     match checker::check(
         sheet,
         certificate,
@@ -330,92 +365,123 @@ fn answer_check(sheet: &[u8], certificate: &[u8]) {
         &mut base,
     ) {
         Checked::Stands(conclusion, inferences) => {
-            number(0);
-            number(conclusion);
-            number(inferences.0);
+            number(rt, 0)?;
+            number(rt, conclusion)?;
+            number(rt, inferences.0)?;
         }
         Checked::Falls(why, place) => {
-            number(why);
-            number(place);
+            number(rt, why)?;
+            number(rt, place)?;
         }
     }
-    io::write_all(STDOUT_FILENO, b"\n");
+    rt.write_all(b"\n")
 }
 
 // T TOKENS BUDGET ROOM SHEET.
-fn is_lent(line: &[u8]) -> bool {
+fn is_lent(rt: &impl Print, line: &[u8]) -> io::Result<bool> {
     let to = requests::field_end(line, 2);
     if to < line.len() {
         return match requests::read_decimal(line, 2, to) {
-            Decimal::Number(lent) => is_evaluation(line, to + 1, lent),
-            Decimal::Malformed => false,
+            Decimal::Number(lent) => is_evaluation(rt, line, to + 1, lent),
+            Decimal::Malformed => Ok(false),
         };
     }
-    false
+    Ok(false)
 }
 
 // BUDGET ROOM SHEET, from a place on, with a buffer of so many tokens.
-fn is_evaluation(line: &[u8], from: usize, lent: usize) -> bool {
+fn is_evaluation(rt: &impl Print, line: &[u8], from: usize, lent: usize) -> io::Result<bool> {
     let to = requests::field_end(line, from);
     if to < line.len() {
         return match requests::read_decimal(line, from, to) {
-            Decimal::Number(budget) => is_room(line, to + 1, lent, budget),
-            Decimal::Malformed => false,
+            Decimal::Number(budget) => is_room(rt, line, to + 1, lent, budget),
+            Decimal::Malformed => Ok(false),
         };
     }
-    false
+    Ok(false)
 }
 
 // ROOM SHEET of such a line, from a place on.
-fn is_room(line: &[u8], from: usize, lent: usize, budget: usize) -> bool {
+fn is_room(
+    rt: &impl Print,
+    line: &[u8],
+    from: usize,
+    lent: usize,
+    budget: usize,
+) -> io::Result<bool> {
     let to = requests::field_end(line, from);
     if to < line.len() {
         return match requests::read_decimal(line, from, to) {
-            Decimal::Number(room) => is_evaluated(line, to + 1, lent, budget, room),
-            Decimal::Malformed => false,
+            Decimal::Number(room) => is_evaluated(rt, line, to + 1, lent, budget, room),
+            Decimal::Malformed => Ok(false),
         };
     }
-    false
+    Ok(false)
 }
 
 // SHEET of such a line, from a place on.
-fn is_evaluated(line: &[u8], from: usize, lent: usize, budget: usize, room: usize) -> bool {
+fn is_evaluated(
+    rt: &impl Print,
+    line: &[u8],
+    from: usize,
+    lent: usize,
+    budget: usize,
+    room: usize,
+) -> io::Result<bool> {
     let mut sheet = [0u8; FIELD];
     let to = requests::field_end(line, from);
     if to < line.len() {
-        return false;
+        return Ok(false);
     }
     match requests::read_hex(&mut sheet, line, from, to) {
         Hex::Bytes(n) => {
-            answer_evaluation(&sheet[..n], lent, budget, room);
-            true
+            answer_evaluation(rt, &sheet[..n], lent, budget, room)?;
+            Ok(true)
         }
-        Hex::Malformed => false,
+        Hex::Malformed => Ok(false),
     }
 }
 
 // The answer to such a line.
-fn answer_evaluation(sheet: &[u8], lent: usize, budget: usize, room: usize) {
+fn answer_evaluation(
+    rt: &impl Print,
+    sheet: &[u8],
+    lent: usize,
+    budget: usize,
+    room: usize,
+) -> io::Result<()> {
     let mut out = [0u8; ROOM];
     if room < ROOM {
-        return lend_tokens(&mut out[..room], sheet, lent, budget);
+        return lend_tokens(rt, &mut out[..room], sheet, lent, budget);
     }
-    lend_tokens(&mut out, sheet, lent, budget)
+    lend_tokens(rt, &mut out, sheet, lent, budget)
 }
 
 // The same, with an output of at most 65,536 bytes. The door asks for 11,264 tokens, so that more of them change nothing.
-fn lend_tokens(out: &mut [u8], sheet: &[u8], lent: usize, budget: usize)
+fn lend_tokens(
+    rt: &impl Print,
+    out: &mut [u8],
+    sheet: &[u8],
+    lent: usize,
+    budget: usize,
+) -> io::Result<()>
     requires { length out.old ≤ 65536 }
 {
     let mut tokens = [0u32; evaluator::TOKENS];
     if lent < evaluator::TOKENS {
-        return evaluate_into(&mut tokens[..lent], out, sheet, budget);
+        return evaluate_into(rt, &mut tokens[..lent], out, sheet, budget);
     }
-    evaluate_into(&mut tokens, out, sheet, budget)
+    evaluate_into(rt, &mut tokens, out, sheet, budget)
 }
 
 // The same, with the tokens' buffer.
-fn evaluate_into(tokens: &mut [u32], out: &mut [u8], sheet: &[u8], budget: usize)
+fn evaluate_into(
+    rt: &impl Print,
+    tokens: &mut [u32],
+    out: &mut [u8],
+    sheet: &[u8],
+    budget: usize,
+) -> io::Result<()>
     requires { length out.old ≤ 65536 }
 {
     let mut listing = [0u32; evaluator::LISTING];
@@ -436,38 +502,43 @@ fn evaluate_into(tokens: &mut [u32], out: &mut [u8], sheet: &[u8], budget: usize
         tokens,
         out,
     ) {
-        Evaluated::Accepted(n, work, inferences) => accepted(&out[..n], work, inferences),
-        Evaluated::Refused(why, place) => refused(why, place),
+        Evaluated::Accepted(n, work, inferences) => accepted(rt, &out[..n], work, inferences),
+        Evaluated::Refused(why, place) => refused(rt, why, place),
     }
 }
 
 // The line for a certificate.
-fn accepted(certificate: &[u8], work: Work, inferences: Inferences)
+fn accepted(
+    rt: &impl Print,
+    certificate: &[u8],
+    work: Work,
+    inferences: Inferences,
+) -> io::Result<()>
     requires { length certificate.now ≤ 65536 }
 {
     let mut text = [0u8; 2 * ROOM];
     let n = certificate.len();
     requests::write_hex(&mut text, certificate);
-    io::write_all(STDOUT_FILENO, b"E");
-    number(0);
-    number(n);
-    number(work.0);
-    number(inferences.0);
-    io::write_all(STDOUT_FILENO, b" ");
-    io::write_all(STDOUT_FILENO, &text[..2 * n]);
-    io::write_all(STDOUT_FILENO, b"\n");
+    rt.write_all(b"E")?;
+    number(rt, 0)?;
+    number(rt, n)?;
+    number(rt, work.0)?;
+    number(rt, inferences.0)?;
+    rt.write_all(b" ")?;
+    rt.write_all(&text[..2 * n])?;
+    rt.write_all(b"\n")
 }
 
 // The line for a refusal of an evaluation.
-fn refused(why: usize, place: usize) {
-    io::write_all(STDOUT_FILENO, b"E");
-    number(why);
-    number(place);
-    io::write_all(STDOUT_FILENO, b"\n");
+fn refused(rt: &impl Print, why: usize, place: usize) -> io::Result<()> {
+    rt.write_all(b"E")?;
+    number(rt, why)?;
+    number(rt, place)?;
+    rt.write_all(b"\n")
 }
 
 // A blank and a number.
-fn number(n: usize) {
-    io::write_all(STDOUT_FILENO, b" ");
-    io::print_decimal(STDOUT_FILENO, n as u64);
+fn number(rt: &impl Print, n: usize) -> io::Result<()> {
+    rt.write_all(b" ")?;
+    rt.print(n)
 }

@@ -95,8 +95,8 @@ module _ {A : Type 0} {P : A → ℕ → Type 0} {w : ℕ} where
   pub on_forms : {f : List Form → Out A} (vs : List Val) (k : ℕ) →
       ((ps : List Form) → vs ≡ all_forms ps → Ran P w (f ps)) → Ran P w (as_forms vs k f)
   unfolding as_forms all_forms
-  on_forms [] k g = g [] refl
-  on_forms (v ∷ vs) k g = on_form v k (λ p e. on_forms vs k (λ ps e'. g (p ∷ ps) (cc)))
+  on_forms {f = f} [] k g = g [] refl
+  on_forms {f = f} (v ∷ vs) k g = on_form v k (λ p e. on_forms {f = λ x. f (p ∷ x)} vs k (λ ps e'. g (p ∷ ps) (cc)))
 
   pub on_choice_lem : {f : ℕ → List Form → Out A} (cs : List Clause) (p : Form) (k : ℕ) →
       ((b : ℕ) (ps : List Form) → First cs p b ps → Ran P w (f b ps)) → Ran P w (on_choice (choose cs p) k f)

@@ -5,7 +5,7 @@ use mathlib.Core.Path.{◌≡◌, refl, sym, ◌∙◌, ap}
 use mathlib.Core.List.{List, [], ◌∷◌}
 use mathlib.Core.Bool.{Bool, true, false, ◌&&◌, ◌||◌, not, beq, and-eq-true_iff}
 use lib.ListN.{get_or}
-use Rattle.language.specs.Form.{Conn, Form, atom, verum, falsum, neg, bin, same, same_conn, members, State, joins, holds, holds_all}
+use Rattle.language.specs.Form.{Conn, Form, conj, disj, cond, bicond, atom, verum, falsum, neg, bin, same, same_conn, members, State, joins, holds, holds_all}
 use Rattle.language.specs.Rules.{Ruled, gives, misshapen, provided, as_bin, as_neg, table, ruled}
 use Rattle.language.specs.Plain.{Plain, Proves, by_rule, in_turn, assuming}
 use Rattle.theorems.specs.Lists.{All}
@@ -79,24 +79,24 @@ module _ (σ : State) where
   unfolding table holds holds_all joins
   table_sound x y z =
       sound (valid₁ (λ a. a && true ⇒ a) refl ⟦ x ⟧)
-      & on_bin x (λ p q e. on_same p y (λ f.
+      & on_bin {c = cond} x (λ p q e. on_same p y (λ f.
       sound (rw (e, ← f) (valid₂ (λ a b. (a ⇒ b) && (a && true) ⇒ b) refl ⟦ p ⟧ ⟦ q ⟧))))
-      & on_bin x (λ p q e. on_neg y (λ q' f. on_same q q' (λ g.
+      & on_bin {c = cond} x (λ p q e. on_neg y (λ q' f. on_same q q' (λ g.
       sound (rw (e, f, ← g) (valid₂ (λ a b. (a ⇒ b) && (not b && true) ⇒ not a) refl ⟦ p ⟧ ⟦ q ⟧)))))
       & on_neg x (λ p e. on_neg p (λ q f.
       sound (rw (e, f) (valid₁ (λ a. not (not a) && true ⇒ a) refl ⟦ q ⟧))))
       & sound (valid₂ (λ a b. a && (b && true) ⇒ a && b) refl ⟦ x ⟧ ⟦ y ⟧)
-      & on_bin x (λ p q e. sound (rw e (valid₂ (λ a b. a && b && true ⇒ a) refl ⟦ p ⟧ ⟦ q ⟧)))
-      & on_bin x (λ p q e. sound (rw e (valid₂ (λ a b. a && b && true ⇒ b) refl ⟦ p ⟧ ⟦ q ⟧)))
+      & on_bin {c = conj} x (λ p q e. sound (rw e (valid₂ (λ a b. a && b && true ⇒ a) refl ⟦ p ⟧ ⟦ q ⟧)))
+      & on_bin {c = conj} x (λ p q e. sound (rw e (valid₂ (λ a b. a && b && true ⇒ b) refl ⟦ p ⟧ ⟦ q ⟧)))
       & sound (valid₂ (λ a b. a && true ⇒ a || b) refl ⟦ x ⟧ ⟦ y ⟧)
       & sound (valid₂ (λ a b. b && true ⇒ a || b) refl ⟦ x ⟧ ⟦ y ⟧)
-      & on_bin x (λ p q e. on_bin y (λ p' r f. on_same p p' (λ g. on_bin z (λ q' r' h. on_both q q' r r' (λ i j.
+      & on_bin {c = disj} x (λ p q e. on_bin {c = cond} y (λ p' r f. on_same p p' (λ g. on_bin {c = cond} z (λ q' r' h. on_both q q' r r' (λ i j.
       sound (rw (e, f, h, ← g, ← i, ← j)
       (valid₃ (λ a b c. (a || b) && ((a ⇒ c) && ((b ⇒ c) && true)) ⇒ c) refl ⟦ p ⟧ ⟦ q ⟧ ⟦ r ⟧)))))))
-      & on_bin x (λ p q e. on_bin y (λ q' p' f. on_both p p' q q' (λ g h.
+      & on_bin {c = cond} x (λ p q e. on_bin {c = cond} y (λ q' p' f. on_both p p' q q' (λ g h.
       sound (rw (e, f, ← g, ← h) (valid₂ (λ a b. (a ⇒ b) && ((b ⇒ a) && true) ⇒ beq a b) refl ⟦ p ⟧ ⟦ q ⟧)))))
-      & on_bin x (λ p q e. sound (rw e (valid₂ (λ a b. beq a b && true ⇒ (a ⇒ b)) refl ⟦ p ⟧ ⟦ q ⟧)))
-      & on_bin x (λ p q e. sound (rw e (valid₂ (λ a b. beq a b && true ⇒ (b ⇒ a)) refl ⟦ p ⟧ ⟦ q ⟧)))
+      & on_bin {c = bicond} x (λ p q e. sound (rw e (valid₂ (λ a b. beq a b && true ⇒ (a ⇒ b)) refl ⟦ p ⟧ ⟦ q ⟧)))
+      & on_bin {c = bicond} x (λ p q e. sound (rw e (valid₂ (λ a b. beq a b && true ⇒ (b ⇒ a)) refl ⟦ p ⟧ ⟦ q ⟧)))
       & sound refl
       & on_neg y (λ p e. on_same x p (λ f.
       sound (rw (e, ← f) (valid₁ (λ a. a && (not a && true) ⇒ false) refl ⟦ x ⟧))))

@@ -3,3 +3,4 @@
 // what was written and stays inside its limits, an answer stands when sheet, budget and room grow, and what is past the longest
 // sheet and certificate cannot matter.
 // specs/Demands.antt has the statements, proofs/Lib.antt the files in reading order.
+#![tactic(auto)]

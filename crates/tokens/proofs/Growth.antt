@@ -11,6 +11,8 @@ pub names_more : (fs gs : List Form) (ns : List ℕ) (ps : List Form) → Names 
 unfolding Names
 names_more fs gs [] [] x = x
 names_more fs gs (n ∷ ns) (p ∷ ps) x = (is_more fs gs n p x.0, names_more fs gs ns ps x.1)
+names_more fs gs [] (p ∷ ps) x = elim x [ ]
+names_more fs gs (n ∷ ns) [] x = elim x [ ]
 
 pub tells_more : (fs gs : List Form) (D : Plain) (ts : List ℕ) → Tells fs D ts → Tells (fs ++ gs) D ts
 unfolding Tells

@@ -1,6 +1,7 @@
 // A plain proof as tokens in a lent buffer, in prefix order: 0, the rule and its arguments; 1 and two proofs; 2, the hypothesis and a proof.
 // Propositions are numbers of the table of formed ones, so that what is written stays true while the table grows (proofs/Growth.antt).
 // Each function writes from token n on and answers how many tokens there then are.
+#![tactic(auto)]
 ghost use Rattle.std.specs.Prelude.{◌≡◌, [], ◌∷◌, ◌+◌, ◌<◌, ◌≤◌, ◌^◌, length};
 ghost use Rattle.std.proofs.lemmas.List.Edits.{sets};
 

@@ -1,6 +1,7 @@
 // The command's words: every text that it writes, and bytes in decimal that it reads.
 // An answer is written on a page, a lent buffer, and the function answers how much of the page is then written; writing past its end changes nothing.
 // Each contract is the definition's text (specs/Answers.antt), whatever stood on the page before.
+#![tactic(auto)]
 ghost use Rattle.std.specs.Prelude.{◌≡◌, ◌-◌, ◌<◌, length};
 ghost use Rattle.wording.specs.Page.{page as Page·page, write};
 ghost use Rattle.wording.specs.Answers.{accepted_text, stands_text, refused_text, dots_text, here_text, around_text, sheet_text, certificate_text, first_at, operand as Answers·operand, facts_of, phrase_text, falls_text, fails_text, bytes_text, trouble_text};
@@ -33,7 +34,7 @@ pub const NO_REQUEST: usize = 4;
 pub const UNKEPT: usize = 5;
 
 // Where a text is read: the number begun and how many digits it has, and the next character's line and column, counted from 1.
-#[derive(Drop)]
+#[derive(Clone, Copy)]
 pub struct Scan {
     pub value: u8,
     pub digits: usize,
@@ -43,7 +44,7 @@ pub struct Scan {
 
 // What a text of bytes in decimal says so far: bytes; or the line and column of its first fault, a character that is neither a digit nor white space,
 // or the beginning of a number over 255.
-#[derive(Drop)]
+#[derive(Clone, Copy)]
 pub enum Decoded {
     Bytes(Scan),
     Stray(usize, usize),

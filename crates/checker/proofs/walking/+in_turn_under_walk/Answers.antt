@@ -1,0 +1,128 @@
+-- A node by its kind: each call finds what it asks in what was read, and each return answers what the definition concludes.
+-- Nesting left is what falls: a node opens, then its parts are walked.
+use Prim.Native.Nat.{◌+◌, ◌*◌}
+use mathlib.Core.Path.{◌≡◌}
+use native.Mathlib.Omega.{arith}
+use borrow.Author.Rules.{rules}
+use Rattle.checker.proofs.Opening.{deep_enough, walk_rule, rule_walked, walk_two, two_walked, walk_under, under_walked}
+use Rattle.checker.proofs.Sequences.{walk_first, two_refused, push_fits, walk_second, two_concluded}
+use Rattle.checker.proofs.Hypotheses.{hypothesis_fits, walk_inside, under_refused, conditional_fits, under_concluded}
+use Prim.Native.Nat.{ℕ, ◌<◌}
+use borrow.Fn.Kinds.{In}
+use borrow.Fn.PlainCycle.{Measures, is, falls, and}
+use Rattle.checker.proofs.walking.in_turn.Reads as in_turn
+use Rattle.checker.proofs.walking.in_turn.Kinds as in-turn-kinds
+use Rattle.checker.proofs.walking.+in_turn_under_walk.Lts-in_turn as in-turn-lts
+use Rattle.checker.proofs.walking.under.Reads as under
+use Rattle.checker.proofs.walking.under.Kinds as under-kinds
+use Rattle.checker.proofs.walking.+in_turn_under_walk.Lts-under as under-lts
+use Rattle.checker.proofs.walking.walk.Reads as walk
+use Rattle.checker.proofs.walking.walk.Kinds as walk-kinds
+use Rattle.checker.proofs.walking.+in_turn_under_walk.Lts-walk as walk-lts
+use Rattle.checker.proofs.walking.named.Reads as named-reads
+use Rattle.checker.proofs.walking.rule_node.Reads as rule-node-reads
+use Rattle.checker.proofs.walking.taken.Reads as taken-reads
+use Rattle.forms.proofs.conditional.Reads as conditional-reads
+use Rattle.words.proofs.put.Reads as put_reads
+use Rattle.checker.proofs.walking.+in_turn_under_walk.Tie.{close}
+use Rattle.checker.proofs.walking.+in_turn_under_walk.Goals as goal
+
+pub in_turn-walk-requires : goal.in_turn-walk-requires
+in_turn-walk-requires t c = (omega (arith, c.decreases), walk_first _ _ _ _ _ _ _ _ c.requires)
+
+pub in_turn-put-requires : goal.in_turn-put-requires
+in_turn-put-requires t c =
+    let walk' = c.walk in
+    let W = rw c.in-Concluded.is at walk'.ensures in
+    let h = push_fits _ _ _ _ _ _ _ _ _ _ _ _ _ W walk'.auto.t walk'.auto.base c.requires in
+    omega arith
+
+pub in_turn-walk-requires-in-Concluded : goal.in_turn-walk-requires-in-Concluded
+in_turn-walk-requires-in-Concluded t c =
+    let walk' = c.walk in
+    let W = rw c.in-Concluded.is at walk'.ensures in
+    (omega (arith, c.decreases), walk_second _ _ _ _ _ _ _ _ _ _ _ _ _ W walk'.auto.t walk'.auto.base c.requires _ c.put.ensures)
+
+pub in_turn-returns-in-Refused : goal.in_turn-returns-in-Refused
+in_turn-returns-in-Refused t c = two_refused _ _ _ _ _ _ _ _ _ _ _ _ (rw c.in-Refused.is at c.walk.ensures)
+
+pub in_turn-returns-in-Concluded : goal.in_turn-returns-in-Concluded
+in_turn-returns-in-Concluded t c =
+    let walk' = c.walk in
+    let put = c.put in
+    let W = rw c.in-Concluded.is at walk'.ensures in
+    two_concluded _ _ _ _ _ _ _ _ _ _ _ _ _ W walk'.auto.t walk'.auto.base _ _ _ _ put.ensures c.walk-in-Concluded.ensures
+
+pub under-walk-requires : goal.under-walk-requires
+under-walk-requires t c =
+    let named = c.named-h in
+    (omega (arith, c.decreases), walk_inside _ _ _ _ _ _ _ _ _ _ named.ensures c.requires _ c.put.ensures)
+
+pub under-conditional-f-requires : goal.under-conditional-f-requires
+under-conditional-f-requires t c =
+    let named = c.named-h in
+    let put = c.put in
+    let walk' = c.walk in
+    let W = rw c.in-Concluded.is at walk'.ensures in
+    conditional_fits _ _ _ _ _ _ _ _ _ _ named.ensures _ _ _ _ _ _ put.ensures W walk'.auto.t c.requires
+
+pub under-returns-in-Refused : goal.under-returns-in-Refused
+under-returns-in-Refused t c =
+    let named = c.named-h in
+    let put = c.put in
+    let walk' = c.walk in
+    under_refused _ _ _ _ _ _ _ _ _ _ named.ensures _ _ _ _ _ put.ensures (rw c.in-Refused.is at walk'.ensures)
+
+pub under-returns-in-Concluded : goal.under-returns-in-Concluded
+under-returns-in-Concluded t c =
+    let named = c.named-h in
+    let put = c.put in
+    let walk' = c.walk in
+    let W = rw c.in-Concluded.is at walk'.ensures in
+    under_concluded _ _ _ _ _ _ _ _ _ _ named.ensures _ _ _ _ _ _ put.ensures W walk'.auto.t _ _ c.conditional-f.ensures
+
+pub walk-rule_node-requires : goal.walk-rule_node-requires
+walk-rule_node-requires t c =
+    let e : c.taken-k.result.value ≡ 0 = search rules in
+    walk_rule _ _ _ _ _ _ _ _ _ _ c.taken-k.ensures e c.requires
+
+pub walk-overflow_sub-d : goal.walk-overflow_sub-d
+walk-overflow_sub-d t c =
+    let h = deep_enough _ _ _ _ _ _ _ _ _ _ c.taken-k.ensures c.requires in
+    omega arith
+
+pub walk-in_turn-requires : goal.walk-in_turn-requires
+walk-in_turn-requires t c =
+    let h = deep_enough _ _ _ _ _ _ _ _ _ _ c.taken-k.ensures c.requires in
+    let e : c.taken-k.result.value ≡ 1 = search rules in
+    (omega (arith, c.decreases), walk_two _ _ _ _ _ _ _ _ _ _ c.taken-k.ensures h e c.requires)
+
+pub walk-overflow_sub-d-in_default : goal.walk-overflow_sub-d-in_default
+walk-overflow_sub-d-in_default t c =
+    let h = deep_enough _ _ _ _ _ _ _ _ _ _ c.taken-k.ensures c.requires in
+    omega arith
+
+pub walk-under-requires : goal.walk-under-requires
+walk-under-requires t c =
+    let h = deep_enough _ _ _ _ _ _ _ _ _ _ c.taken-k.ensures c.requires in
+    let e : c.taken-k.result.value ≡ 0 → ⊥ = λ z. search rules in
+    let f : c.taken-k.result.value ≡ 1 → ⊥ = λ z. search rules in
+    (omega (arith, c.decreases), walk_under _ _ _ _ _ _ _ _ _ _ c.taken-k.ensures h e f c.requires)
+
+pub walk-returns-in-0 : goal.walk-returns-in-0
+walk-returns-in-0 t c =
+    let e : c.taken-k.result.value ≡ 0 = search rules in
+    rule_walked _ _ _ _ _ _ _ _ _ _ c.taken-k.ensures e _ _ _ c.rule_node.ensures
+
+pub walk-returns-in-1 : goal.walk-returns-in-1
+walk-returns-in-1 t c =
+    let h = deep_enough _ _ _ _ _ _ _ _ _ _ c.taken-k.ensures c.requires in
+    let e : c.taken-k.result.value ≡ 1 = search rules in
+    two_walked _ _ _ _ _ _ _ _ _ _ c.taken-k.ensures h e _ _ _ c.in_turn.ensures
+
+pub walk-returns-in_default : goal.walk-returns-in_default
+walk-returns-in_default t c =
+    let h = deep_enough _ _ _ _ _ _ _ _ _ _ c.taken-k.ensures c.requires in
+    let e : c.taken-k.result.value ≡ 0 → ⊥ = λ z. search rules in
+    let f : c.taken-k.result.value ≡ 1 → ⊥ = λ z. search rules in
+    under_walked _ _ _ _ _ _ _ _ _ _ c.taken-k.ensures h e f _ _ _ c.under.ensures

@@ -1,0 +1,35 @@
+-- Each clause that misses leaves one clause less. The first that fits is chosen.
+use native.Mathlib.Omega.{arith}
+use Rattle.patterns.proofs.Choosing.{none_left, first_tried, others, first_fits, first_misses}
+use Prim.Native.Nat.{ℕ, ◌<◌}
+use borrow.Fn.Kinds.{In}
+use borrow.Fn.PlainCycle.{Measures, is, falls, and}
+use Rattle.patterns.proofs.choose.Reads as choose
+use Rattle.patterns.proofs.choose.Kinds as choose-kinds
+use Rattle.patterns.proofs.+choose.Lts-choose as choose-lts
+use Rattle.patterns.proofs.nothing.Reads as nothing-reads
+use Rattle.patterns.proofs.tried.Reads as tried-reads
+use Rattle.words.proofs.at.Reads as at_reads
+use Rattle.patterns.proofs.+choose.Tie.{close}
+use Rattle.patterns.proofs.+choose.Goals as goal
+
+pub returns-then-left-eq0 : goal.returns-then-left-eq0
+returns-then-left-eq0 t c = none_left _ _ _ _ _ _ c.if-left-eq0.true
+
+pub tried-requires : goal.tried-requires
+tried-requires t c = rw c.nothing.ensures (first_tried _ _ _ _ _ _ _ c.if-left-eq0.false c.at-q.ensures c.requires)
+
+pub choose-requires : goal.choose-requires
+choose-requires t c =
+    (omega (arith, c.requires, c.if-left-eq0.false), others _ _ _ _ _ _ c.if-left-eq0.false c.requires)
+
+pub returns-in-Fits : goal.returns-in-Fits
+returns-in-Fits t c =
+    let if1 = c.if-left-eq0 in
+    let at1 = c.at-q in
+    first_fits _ _ _ _ _ _ _ _ _ if1.false at1.ensures c.at.ensures (rw (c.nothing.ensures, c.in-Fits.is) at c.tried.ensures)
+
+pub returns-in-Misses : goal.returns-in-Misses
+returns-in-Misses t c =
+    let if1 = c.if-left-eq0 in
+    first_misses _ _ _ _ _ _ _ _ if1.false c.at-q.ensures (rw (c.nothing.ensures, c.in-Misses.is) at c.tried.ensures) c.choose.ensures

@@ -1,0 +1,26 @@
+-- The clauses from the start are those stored, and the rest from here.
+use Prim.Native.Nat.{◌-◌}
+use mathlib.Core.Path.{refl}
+use Rattle.phrases.specs.Shapes.{operand_at}
+use Rattle.records.specs.Answers.{rows_in}
+use Rattle.phrases.proofs.OperandRuns.{clause_run, At, at_start, at_end, stored_refused, stored_more}
+use borrow.Author.Rules.{rules}
+use Rattle.phrases.proofs.clause_list.Goals as goal
+
+pub loop-i-init : goal.loop-i-init
+loop-i-init c = at_start _ _ _ _ _
+
+pub returns-in-Refused : goal.returns-in-Refused
+returns-in-Refused c =
+    let loop = c.loop-i in
+    let loop-test = c.loop-i-test in
+    stored_refused _ _ _ _ _ _ _ _ loop.invariant _ _ _ c.clause.ensures _ _ loop-test.true c.in-Refused.is
+
+pub loop-i-preserved : goal.loop-i-preserved
+loop-i-preserved c =
+    let loop = c.loop-i in
+    let loop-test = c.loop-i-test in
+    stored_more _ _ _ _ _ _ _ _ loop.invariant _ _ _ c.clause.ensures _ loop-test.true c.in-At.is refl
+
+pub returns : goal.returns
+returns c = at_end _ _ _ _ _ _ _ _ c.loop-i.invariant c.loop-i-test.false

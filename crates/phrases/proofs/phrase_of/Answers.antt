@@ -1,0 +1,32 @@
+-- The shape of the kind picks the reader of the operands.
+use Rattle.phrases.specs.Shapes.{shaped_row}
+use borrow.Author.Rules.{rules}
+use Rattle.phrases.proofs.phrase_of.Goals as goal
+
+pub returns-in-Nothing : goal.returns-in-Nothing
+unfolding shaped_row
+returns-in-Nothing c = rw (← c.shape_of.ensures, c.in-Nothing.is)
+
+pub returns-in-Name : goal.returns-in-Name
+unfolding shaped_row
+returns-in-Name c = rw (← c.shape_of.ensures, c.in-Name.is) c.name.ensures
+
+pub returns-in-One : goal.returns-in-One
+unfolding shaped_row
+returns-in-One c = rw (← c.shape_of.ensures, c.in-One.is) c.one.ensures
+
+pub returns-in-Two : goal.returns-in-Two
+unfolding shaped_row
+returns-in-Two c = rw (← c.shape_of.ensures, c.in-Two.is) c.two.ensures
+
+pub returns-in-Call : goal.returns-in-Call
+unfolding shaped_row
+returns-in-Call c = rw (← c.shape_of.ensures, c.in-Call.is) c.call.ensures
+
+pub returns-in-Block : goal.returns-in-Block
+unfolding shaped_row
+returns-in-Block c = rw (← c.shape_of.ensures, c.in-Block.is) c.block.ensures
+
+pub returns-in-Match : goal.returns-in-Match
+unfolding shaped_row
+returns-in-Match c = rw (← c.shape_of.ensures, c.in-Match.is) c.cases.ensures

@@ -1,0 +1,25 @@
+-- The rows from the start are those laid, and the rest from here.
+use Prim.Native.Nat.{◌-◌}
+use lib.ListN.{take}
+use Rattle.records.specs.Reading.{phrase_row}
+use Rattle.reader.proofs.Filling.{At, at_start, at_end, at_refused, at_more}
+use borrow.Author.Rules.{rules}
+use Rattle.reader.proofs.parts.phrase_rows.Goals as goal
+
+pub loop-i-init : goal.loop-i-init
+loop-i-init c = at_start _ _ _ _ _ _
+
+pub returns-in-Refused : goal.returns-in-Refused
+returns-in-Refused c =
+    let loop = c.loop-i in
+    let loop-test = c.loop-i-test in
+    at_refused _ _ _ _ _ _ _ _ _ loop.invariant _ _ loop-test.true c.read_phrase.ensures _ _ c.requires.2 c.in-Refused.is
+
+pub loop-i-preserved : goal.loop-i-preserved
+loop-i-preserved c =
+    let loop = c.loop-i in
+    let loop-test = c.loop-i-test in
+    at_more _ _ _ _ _ _ _ _ _ loop.invariant _ _ loop-test.true c.read_phrase.ensures _ (search rules) c.in-At.is
+
+pub returns : goal.returns
+returns c = at_end _ _ _ _ _ _ _ _ _ c.loop-i.invariant c.requires.2 c.loop-i-test.false

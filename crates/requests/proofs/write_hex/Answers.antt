@@ -1,0 +1,14 @@
+-- `requests::write_hex` meets its contract: at each turn what is written stands at the front of out.
+use native.Mathlib.Omega.{arith}
+use Prim.Native.Nat.{ℕ, ◌+◌, ◌-◌}
+use lib.ListN.{length}
+use borrow.Author.Rules.{rules, Below-set}
+use Rattle.requests.proofs.Hexed.{At, at_start, at_byte, at_end}
+use Rattle.requests.proofs.write_hex.Goals as goal
+
+pub loop-i-init : goal.loop-i-init
+loop-i-init c = at_start _ _
+
+pub loop-i-preserved : goal.loop-i-preserved
+loop-i-preserved c =
+    at_byte _ _ _ _ _ _ _ _ c.loop-i.invariant c.requires c.loop-i-test.true c.wide-b.ensures.0 c.written.ensures.0 c.written-in-loop-i.ensures.0

@@ -1,0 +1,17 @@
+-- At each return the tests on the way say which case of the rule holds.
+use mathlib.Core.Path.{refl, sym, ap, ap₂, ◌∙◌}
+use native.Mathlib.Omega.{arith}
+use Rattle.forms.specs.Word.{word}
+use Rattle.rules.specs.declared.Shape.TheVariants.{New}
+use Rattle.rules.specs.Shapes.{right_iff}
+use Rattle.rules.proofs.Tests.{pass, stop}
+use borrow.Author.Rules.{rules}
+use Rattle.rules.proofs.right_iff.Goals as goal
+
+pub returns-then-kind-eq-IFF : goal.returns-then-kind-eq-IFF
+unfolding right_iff
+returns-then-kind-eq-IFF c = pass c.kind.ensures refl c.if-kind-eq-IFF.true (ap New (c.word.ensures.0 ∙ ap₂ (word 6) c.right.ensures c.left.ensures.0))
+
+pub returns : goal.returns
+unfolding right_iff
+returns c = stop _ c.kind.ensures refl c.if-kind-eq-IFF.false

@@ -1,0 +1,18 @@
+-- `page::list` meets its contract: at each turn what is to be written from the start is what is to be written from here.
+use Prim.Native.Nat.{◌-◌}
+use lib.ListN.{length}
+use mathlib.Core.Path.{refl}
+use Rattle.wording.proofs.Listing.{At, at_start, at_none, at_more, at_end}
+use Rattle.wording.proofs.page.list.Goals as goal
+
+pub returns-then-left-eq0 : goal.returns-then-left-eq0
+returns-then-left-eq0 c = at_none _ _ _ _ _ _ _ _ _ c.loop-i.invariant c.if-left-eq0.true
+
+pub loop-i-preserved : goal.loop-i-preserved
+loop-i-preserved c =
+    let loop = c.loop-i in
+    let loop-test = c.loop-i-test in
+    at_more _ _ _ _ _ _ _ _ _ loop.invariant _ _ _ refl loop-test.true c.if-left-eq0.false c.spaced-k.ensures c.spaced-k.auto.out
+
+pub returns : goal.returns
+returns c = at_end _ _ _ _ _ _ _ _ _ c.loop-i.invariant c.loop-i-test.false

@@ -1,0 +1,14 @@
+-- `template::fill_from` meets its contract: at each turn what is to be written from the start is what is to be written from here.
+use Prim.Native.Nat.{◌-◌}
+use lib.ListN.{length}
+use Rattle.wording.proofs.Filling.{At, at_start, at_bar, at_more, at_end}
+use Rattle.wording.proofs.template.fill_from.Goals as goal
+
+pub returns-then-text-i-eq124 : goal.returns-then-text-i-eq124
+returns-then-text-i-eq124 c = at_bar _ _ _ _ _ _ _ _ c.loop-i.invariant c.loop-i-test.true c.if-text-i-eq124.true
+
+pub loop-i-preserved : goal.loop-i-preserved
+loop-i-preserved c = at_more _ _ _ _ _ _ _ _ c.loop-i.invariant _ _ c.loop-i-test.true c.if-text-i-eq124.false c.part-k.ensures c.part-k.auto.out
+
+pub returns : goal.returns
+returns c = at_end _ _ _ _ _ _ _ _ c.loop-i.invariant c.loop-i-test.false
