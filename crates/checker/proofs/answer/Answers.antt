@@ -6,7 +6,7 @@ pub against-requires : goal.against-requires
 against-requires c =
     let read_sheet = c.read_sheet in
     let k = read_sheet.auto in
-    sheet_ready _ _ _ _ _ _ _ _ _ _ _ c.requires _ read_sheet.ensures _ c.in-Read.is k.0 k.1.0 k.1.1.1.1.0
+    sheet_ready _ _ _ _ _ _ _ _ _ _ _ c.requires _ read_sheet.ensures _ c.in-Read.is k.names k.forms k.base
 
 pub returns-in-Refused : goal.returns-in-Refused
 returns-in-Refused c =

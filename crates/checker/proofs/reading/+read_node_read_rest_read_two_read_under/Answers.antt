@@ -47,7 +47,7 @@ read_node-returns-in-Refused t c = λ ps l. kind_refused _ ps _ _ _ _ _ (sym c.r
 pub read_node-returns-else-d-gt0 : goal.read_node-returns-else-d-gt0
 read_node-returns-else-d-gt0 t c =
     let e = (sym c.read_from.ensures ∙ ap gotten c.in-Got.is) in
-    λ ps l. ⊎_elim (λ w. no_nodes _ ps _ _ _ _ e _ (ltb-false _ 7168 w.1)) (λ w. no_nesting _ ps _ _ _ _ e _ w) c.else-d-gt0.either
+    λ ps l. ⊎_elim (λ w. no_nodes _ ps _ _ _ _ e _ w.1) (λ w. no_nesting _ ps _ _ _ _ e _ w) c.else-d-gt0.either
 
 pub read_rest-returns-in-0 : goal.read_rest-returns-in-0
 read_rest-returns-in-0 t c =
