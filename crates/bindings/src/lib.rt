@@ -14,14 +14,14 @@ mod tag;
 const WIDTH: usize = 4;
 
 // The phrase of a function or method, and the chain of the bindings where it was written.
-#[derive(Drop)]
+#[derive(Clone, Copy)]
 pub struct Closure {
     pub phrase: usize,
     pub env: usize,
 }
 
 // A proposition by its number in the table, a constructor, a rule, a function or a method.
-#[derive(Drop)]
+#[derive(Clone, Copy)]
 pub enum Value {
     Prop(usize),
     Constructor(usize),

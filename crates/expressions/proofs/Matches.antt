@@ -4,8 +4,6 @@ use mathlib.Core.List.{List, [], ◌∷◌, ◌++◌, map, append-nil}
 use Prim.Native.Nat.{ℕ, ◌+◌, ◌*◌, ◌≤◌, ◌<◌}
 use mathlib.Core.Logic.{⊎_elim}
 use native.Mathlib.Omega.{arith}
-use denote.Enum.Declared.{tag_of}
-use types.Run.{OneOf}
 use lib.ListN.{length, drop}
 use Rattle.language.specs.Refusals.{wrong_kind, no_clause}
 use Rattle.language.specs.Form.{Form}
@@ -17,7 +15,6 @@ use Rattle.records.specs.Rows.{clauses_of}
 use Rattle.theorems.proofs.Lists.{all_map}
 use Rattle.bindings.specs.declared.Value.{Value}
 use Rattle.bindings.specs.declared.Value.TheVariants.{Prop, Constructor, Rule, Function, Method}
-use Rattle.bindings.specs.contracts.Value.{the_type}
 use Rattle.bindings.specs.Stands.{Chain}
 use Rattle.bindings.proofs.Chains.{chain_low}
 use Rattle.patterns.specs.declared.Parts.{Parts}
@@ -172,8 +169,8 @@ module _ (s : Shared) (env k p : ℕ) (m : M) (n : ℕ) (i : n ≡ two s.phrases
 -- the first phrase
 
 -- a value that is none of the first kind is no proposition
-pub other_kind : (v : Value) → OneOf (1 ∷ 2 ∷ 3 ∷ 4 ∷ []) (tag_of the_type v) → part_of v ≡ Other
-other_kind (Prop p) h = ⊎_elim (λ e. absurd (omega arith)) (λ h. ⊎_elim (λ e. absurd (omega arith)) (λ h. ⊎_elim (λ e. absurd (omega arith)) (λ e. absurd (omega arith)) h) h) h
+pub other_kind : (v : Value) → ((p : ℕ) → v ≡ Prop p → ⊥) → part_of v ≡ Other
+other_kind (Prop p) h = absurd (h p refl)
 other_kind (Constructor c) h = refl
 other_kind (Rule r) h = refl
 other_kind (Function f) h = refl

@@ -13,7 +13,7 @@ use records::{pattern_kind, rows};
 const ABOVE: usize = forms::kind::NOT - pattern_kind::NOT;
 
 // What a pattern binds, left to right: so many propositions by their numbers, the first ones of four.
-#[derive(Drop)]
+#[derive(Clone, Copy)]
 pub struct Parts {
     pub count: usize,
     pub first: usize,
