@@ -5,15 +5,12 @@ use mathlib.Core.List.{List, [], ◌∷◌}
 use mathlib.Core.Logic.{⊎_elim}
 use Prim.Native.Nat.{ℕ}
 use native.Mathlib.Omega.{arith}
-use denote.Enum.Declared.{tag_of}
-use types.Run.{OneOf}
 use Rattle.language.specs.Refusals.{wrong_kind}
 use Rattle.language.specs.Form.{Form}
 use Rattle.language.specs.Syntax.{function, method}
 use Rattle.language.specs.Values.{Val, form, con_v, rule_v, closure, Out, stop, as_form}
 use Rattle.bindings.specs.declared.Value.{Value}
 use Rattle.bindings.specs.declared.Value.TheVariants.{Prop, Constructor, Rule, Function, Method}
-use Rattle.bindings.specs.contracts.Value.{the_type}
 use Rattle.bindings.specs.Stands.{Is, Stands}
 use Rattle.bindings.proofs.Tags.{tag, held}
 
@@ -21,8 +18,8 @@ use Rattle.bindings.proofs.Tags.{tag, held}
 abbrev pub Otherwise : Value → Type 0
 Otherwise v = tag v ≡ 0 → ⊥
 
-pub otherwise : (v : Value) → OneOf (1 ∷ 2 ∷ 3 ∷ 4 ∷ []) (tag_of the_type v) → Otherwise v
-otherwise (Prop p) h z = ⊎_elim (λ e. omega arith) (λ h. ⊎_elim (λ e. omega arith) (λ h. ⊎_elim (λ e. omega arith) (λ e. omega arith) h) h) h
+pub otherwise : (v : Value) → ((p : ℕ) → v ≡ Prop p → ⊥) → Otherwise v
+otherwise (Prop p) h z = h p refl
 otherwise (Constructor c) h z = omega arith
 otherwise (Rule r) h z = omega arith
 otherwise (Function f) h z = omega arith

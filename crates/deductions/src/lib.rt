@@ -25,14 +25,14 @@ mod inference;
 mod operands;
 
 // What is formed, bound and left of the budget, and how many tokens are written.
-#[derive(Drop)]
+#[derive(Clone, Copy)]
 pub struct Progress {
     pub state: State,
     pub tokens: usize,
 }
 
 // Where a phrase runs: how many numbers of the base's stack it sees, where the chain of its bindings starts, and the nesting left.
-#[derive(Drop)]
+#[derive(Clone, Copy)]
 pub struct Site {
     pub base: usize,
     pub env: usize,

@@ -25,7 +25,7 @@ use records::{phrase_kind, rows};
 const NOT: usize = 0;
 
 // How many propositions are formed, how many bindings are made, and what is left of the budget.
-#[derive(Drop)]
+#[derive(Clone, Copy)]
 pub struct State {
     pub props: usize,
     pub bindings: usize,

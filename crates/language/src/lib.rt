@@ -14,7 +14,7 @@ pub mod rule;
 pub struct Work(pub usize);
 
 // What is left of a budget: evaluations that may still begin. It is no work, which is evaluations begun.
-#[derive(Drop)]
+#[derive(Clone, Copy)]
 pub struct Remaining(pub usize);
 
 // Rules in a certificate. Never added to work.
