@@ -1,13 +1,14 @@
 -- The public functions of `numbers`.
 use Rattle.numbers.proofs as numbers
+use Rattle.numbers.specs.contracts as held
 use Rattle.determined.specs.Once.{Once, OnceHeld}
 
 pub record Numbers : Type 2 where
-  pub cursor_at : OnceHeld numbers.cursor_at.ended (λ M 𝓤 𝓛. numbers.cursor_at.clauses 𝓛)
-  pub moved : OnceHeld numbers.moved.ended (λ M 𝓤 𝓛. numbers.moved.clauses 𝓛)
-  pub number_at : OnceHeld numbers.number_at.ended (λ M 𝓤 𝓛. numbers.number_at.clauses 𝓛)
-  pub number_from : OnceHeld numbers.number_from.ended (λ M 𝓤 𝓛. numbers.number_from.clauses 𝓛)
-  pub number_below : OnceHeld numbers.number_below.ended (λ M 𝓤 𝓛. numbers.number_below.clauses 𝓛)
+  pub cursor_at : OnceHeld held.cursor_at.ended (λ M 𝓤 𝓛. held.cursor_at.clauses 𝓛)
+  pub moved : OnceHeld held.moved.ended (λ M 𝓤 𝓛. held.moved.clauses 𝓛)
+  pub number_at : OnceHeld held.number_at.ended (λ M 𝓤 𝓛. held.number_at.clauses 𝓛)
+  pub number_from : OnceHeld held.number_from.ended (λ M 𝓤 𝓛. held.number_from.clauses 𝓛)
+  pub number_below : OnceHeld held.number_below.ended (λ M 𝓤 𝓛. held.number_below.clauses 𝓛)
   pub read : Once numbers.read.Kinds.ps numbers.read.Kinds.r numbers.read.Reads.Learnt
   pub read_from : Once numbers.read_from.Kinds.ps numbers.read_from.Kinds.r numbers.read_from.Reads.Learnt
   pub read_below : Once numbers.read_below.Kinds.ps numbers.read_below.Kinds.r numbers.read_below.Reads.Learnt
