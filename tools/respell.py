@@ -13,7 +13,7 @@ import re
 import sys
 
 WORD = re.compile(r"[^\s(){}\[\];,.`'\"/:λ∥⌜⌝=][^\s(){}\[\];,.`\"/]*")
-DECLARED = re.compile(r"^(\s*)((?:(?:abbrev|unfoldable|pub|data|record)\s+)*)((?!(?:let|in|use|module)\s)[^\s(){}\[\];,.λ]+(?:\s+[^\s(){}\[\];,.:λ=]+)*)((?:\s+[({].*[)}])?\s+:\s.*)$")
+DECLARED = re.compile(r"^(\s*)((?:(?:abbrev|unfoldable|pub|data|record)\s+)*)((?!(?:let|in|use|module)\s)[^\s(){}\[\];,.λ]+(?:\s+[^\s(){}\[\];,.:λ=]+)*)((?:\s+[({].*[)}])?\s+:(?:\s.*)?)$")
 OTHERWISE = {
     "block-by": "block_by_lem",
     "same-conn": "same_conn_lem",
@@ -26,9 +26,10 @@ RUST_STRING = re.compile(r'"(?:[^"\\]|\\.)*"')
 
 
 def lemma_files():
-    """Files of specs/ and of lemmas: a function's own Proof.antt declares what Rattle names."""
+    """Files of specs/ and of lemmas: what stands in a function's own folder declares what Rattle names."""
     for path in sorted(glob.glob("crates/*/specs/**/*.antt", recursive=True) + glob.glob("crates/*/proofs/**/*.antt", recursive=True)):
-        if os.path.basename(path) not in ("Proof.antt", "Lib.antt"):
+        of_function = "/proofs/" in path and path.count("/") > 3 and os.path.basename(path) in ("Answers.antt", "Invariants.antt")
+        if os.path.basename(path) not in ("Proof.antt", "Lib.antt") and not of_function:
             yield path
 
 

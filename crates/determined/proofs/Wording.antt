@@ -17,10 +17,10 @@ page_once : {A : Type 0} {p : Page} {r r' : ℕ} {t t' : List ℕ} {u : A} → p
 page_once e f = let z = e ∙ sym f in (ap (λ (q : Page). q.used) z, pair (ap (λ (q : Page). q.text) z) refl)
 
 -- a piece of a text read: what it says, how many bytes are written, and the buffer
-reading-once :
+reading_once :
     {A : Type 0} {piece : List ℕ} {b r r' : Reading} {t₀ t t' : List ℕ} {u : A} → Reads piece b r t₀ t → Reads piece b r' t₀ t' →
     (r ≡ r') × (◌≡◌ {A = List ℕ × A} (t, u) (t', u))
-reading-once x y =
+reading_once x y =
     let said = x.answer ∙ sym y.answer in
     let z = x.bytes ∙ sym y.bytes in
     (λ i. record { said = said i; bytes = ap (λ (q : Page). q.used) z i }, pair (ap (λ (q : Page). q.text) z) refl)
@@ -33,7 +33,7 @@ pub wording : Wording
 unfolding Once
 wording = record {
   unread = λ κs a z z' ws ws' x y. (x ∙ sym y, refl);
-  read_decimal = λ κs a z z' ws ws' x y. reading-once x y;
+  read_decimal = λ κs a z z' ws ws' x y. reading_once x y;
   copy = λ κs a z z' ws ws' x y. page_once x y;
   accepted = λ κs a z z' ws ws' x y. page_once x y;
   stands = λ κs a z z' ws ws' x y. page_once x y;
@@ -43,7 +43,7 @@ wording = record {
   in_decimal = λ κs a z z' ws ws' x y. page_once x y;
   trouble = λ κs a z z' ws ws' x y. page_once x y;
   decimals_unread = λ κs a z z' ws ws' x y. (x ∙ sym y, refl);
-  decimals_read = λ κs a z z' ws ws' x y. reading-once x y;
+  decimals_read = λ κs a z z' ws ws' x y. reading_once x y;
   page_put = λ κs a z z' ws ws' x y. page_once x y;
   page_copy = λ κs a z z' ws ws' x y. page_once x y;
   page_number = λ κs a z z' ws ws' x y. page_once x y;

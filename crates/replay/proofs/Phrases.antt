@@ -12,12 +12,12 @@ use Rattle.expressions.specs.Machine.{shared, mk, counters}
 use Rattle.expressions.specs.Asked.{Ready}
 use Rattle.expressions.proofs.Sheets.{ready_sheet}
 
-pub phrase-ready :
+pub phrase_ready :
     (s : List ℕ) (r : SheetRead) (c : Counts) (ns₀ fs₀ ps₀ hs₀ bs₀ ns fs ps hs bs binds : List ℕ) →
     Laid s r ns₀ fs₀ ps₀ hs₀ bs₀ ns fs ps hs bs → r ≡ Read c → length fs ≡ 4610 → length ps ≡ length ps₀ → length ps ≡ 640 → length hs ≡ length hs₀ →
     length hs ≡ 6144 → length binds ≡ 16384 → (k : ℕ) → k < c.phrases → get_or hs (12 * k) 0 < 16 →
     Ready (shared hs ps) (mk fs binds (counters c.words 0 1024)) 0 k 0 0
-phrase-ready s r c ns₀ fs₀ ps₀ hs₀ bs₀ ns fs ps hs bs binds L told f ps-kept p hs-kept h b k l low =
+phrase_ready s r c ns₀ fs₀ ps₀ hs₀ bs₀ ns fs ps hs bs binds L told f ps-kept p hs-kept h b k l low =
     let read : Laid s (Read c) ns₀ fs₀ ps₀ hs₀ bs₀ ns fs ps hs bs =
     record { answered = sym told ∙ L.answered; names = L.names; forms = L.forms; patterns = L.patterns; phrases = L.phrases; base = L.base } in
     ready_sheet s c ns₀ fs₀ ps₀ hs₀ bs₀ ns fs ps hs bs binds 1024 read hs-kept ps-kept (omega arith) (omega arith) (omega arith) (omega arith) (omega arith) (omega arith) k l low
