@@ -3,6 +3,7 @@
 // A function or method keeps the chain where it was written; a fix is a binding whose value is a closure over that binding itself.
 // When a value and a chain stand for the language's values and bindings is said in specs/Stands.antt.
 #![tactic(auto)]
+
 ghost use Rattle.std.specs.Prelude.{◌≡◌, ◌+◌, ◌*◌, ◌<◌, ◌≤◌, length};
 ghost use Rattle.std.proofs.lemmas.List.Edits.{sets};
 ghost use Rattle.bindings.specs.Numbers.{numbers, Small, value_of, binding_at, found};

@@ -3,6 +3,7 @@
 // Then the certificate is measured, and written only where the output has room for all of it.
 // What is written is the definitions' `certificate`; the length and the inferences are its length and the proof's rules.
 #![tactic(auto)]
+
 ghost use Rattle.std.specs.Prelude.{◌≡◌, ◌+◌, ◌<◌, ◌≤◌, length, get_or, set};
 ghost use Rattle.language.specs.Numbers.{groups};
 ghost use Rattle.certificates.specs.Marks.{Listable, Lists};

@@ -4,6 +4,7 @@
 // first's conclusion and nothing derived inside it, and a hypothesis is gone after its proof.
 // Every answer is the definition's: what is concluded, or the first refusal at its place.
 #![tactic(auto)]
+
 ghost use Rattle.std.specs.Prelude.{◌≡◌, true, not, ◌≤◌};
 ghost use Rattle.language.specs.Doors.{checked_numbers, verdict_numbers, check_lengths, enough, wiped};
 ghost use Rattle.language.specs.Check.{certificate_at, verdict};

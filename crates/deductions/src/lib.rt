@@ -6,6 +6,7 @@
 // For each evaluation begun at most four propositions, four bindings, eleven tokens and one number on the base are used, so that nothing is
 // refused for want of room (specs/Meets.antt).
 #![tactic(auto)]
+
 ghost use Rattle.std.specs.Prelude.{◌≡◌, ◌<◌, ◌≤◌};
 ghost use Rattle.expressions.specs.Machine.{shared, kind};
 ghost use Rattle.deductions.specs.Machine.{mk, begun, out_of, operand_of};

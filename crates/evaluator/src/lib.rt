@@ -2,6 +2,7 @@
 // The budget is looked at first, then the scratch; then the sheet is read, its root is run, and the certificate is written where there is room for it.
 // Every answer is the definition's, with the output and every buffer of the scratch afterwards (specs/Door.antt).
 #![tactic(auto)]
+
 ghost use Rattle.std.specs.Prelude.{◌≡◌, true, not, map, ◌≤◌, length};
 ghost use Rattle.language.specs.Answer.{answer};
 ghost use Rattle.language.specs.Doors.{evaluation_lengths, enough, wiped};

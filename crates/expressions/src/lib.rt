@@ -3,6 +3,7 @@
 // refusals with number and place included. The table and the bindings only grow, by at most four for each evaluation begun, so that nothing is
 // refused for want of room (specs/Meets.antt).
 #![tactic(auto)]
+
 ghost use Rattle.std.specs.Prelude.{◌≡◌, List, ℕ, ◌+◌, ◌*◌, ◌<◌, ◌≤◌, length};
 ghost use Rattle.std.proofs.lemmas.List.Edits.{sets};
 ghost use Rattle.language.specs.Run.{takes as arity};

@@ -3,6 +3,7 @@
 // No word is appended twice, so two numbers are equal exactly when the propositions have one shape (proofs/Trees.antt).
 // Whoever forms a proposition gets its number and the count of words then in use.
 #![tactic(auto)]
+
 ghost use Rattle.std.specs.Prelude.{◌≡◌, ◌<◌, ◌^◌, length, take};
 ghost use Rattle.std.proofs.lemmas.List.Edits.{sets};
 ghost use Rattle.language.specs.Form.{conj, disj, cond, bicond};

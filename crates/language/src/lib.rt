@@ -2,6 +2,7 @@
 // table of argument counts.
 // The definitions themselves are in specs/; contracts of every crate cite them.
 #![tactic(auto)]
+
 ghost use Rattle.std.specs.Prelude.{◌≡◌, get_or};
 ghost use Rattle.language.specs.Rules.{arity};
 

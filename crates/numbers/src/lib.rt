@@ -3,6 +3,7 @@
 // A cursor keeps the lent bytes with its place. Its functions are thin, each over one of bytes and a place; `read`, `read_from` and `read_below` make one for a caller that has bytes and a place.
 // Writing stores the shortest form straight into the output; proofs/ReadBack.antt shows that reading it there gives the number.
 #![tactic(auto)]
+
 ghost use Rattle.std.specs.Prelude.{◌≡◌, ◌+◌, ◌<◌, ◌≤◌, length};
 ghost use Rattle.std.proofs.lemmas.List.Edits.{sets};
 ghost use Rattle.language.specs.Numbers.{number, second, third, groups, from, below};

@@ -1,6 +1,7 @@
-// The two doors for C: `waxdapple_evaluate` and `waxdapple_check`, with the doors' contracts. A slice is a pointer and a length.
+// The two doors as C sees them: `waxdapple_evaluate` and `waxdapple_check`, with the doors' contracts; `omega_c_c` exports them.
 // The answer is a number, 0 for acceptance, and values behind pointers (include/waxdapple.h); what a refusal has no value for is 0.
 #![tactic(auto)]
+
 ghost use Rattle.std.specs.Prelude.{◌≡◌, [], ◌∷◌};
 ghost use Rattle.evaluator.specs.Door.{scratch};
 ghost use Rattle.omega_c.specs.Answers.{Evaluation, Check};
@@ -8,8 +9,7 @@ ghost use Rattle.omega_c.specs.Answers.{Evaluation, Check};
 use language::{Checked, Evaluated};
 
 // The evaluation of a sheet: 0 and the certificate's length, the work and the inferences; or a refusal's number, and its place for the length.
-#[unsafe(no_mangle)]
-pub extern "C" fn waxdapple_evaluate(
+pub fn waxdapple_evaluate(
     sheet: &[u8],
     budget: usize,
     listing: &mut [u32],
@@ -45,8 +45,7 @@ pub extern "C" fn waxdapple_evaluate(
 }
 
 // The check of a certificate against a sheet: 0, the conclusion's number and the inferences; or a refusal's number, and its place for the conclusion.
-#[unsafe(no_mangle)]
-pub extern "C" fn waxdapple_check(
+pub fn waxdapple_check(
     sheet: &[u8],
     certificate: &[u8],
     names: &mut [u32],

@@ -3,6 +3,7 @@
 // Propositions are compared by their numbers, as equal numbers are equal shapes. The first clause whose pattern fits is chosen.
 // What is bound or chosen is what the language's `fits` and `choose` give at the trees that the numbers stand for.
 #![tactic(auto)]
+
 ghost use Rattle.std.specs.Prelude.{◌≡◌, ◌<◌};
 ghost use Rattle.patterns.specs.Parts.{none_bound, with};
 ghost use Rattle.patterns.specs.Fitting.{exactly_so, Tried, FitsSo, Offered, ChosenSo};

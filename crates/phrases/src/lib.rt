@@ -3,6 +3,7 @@
 // A reference names an earlier phrase, of the class that its place asks for. A refusal has the number and the place that document 01 gives it.
 // Nothing is assumed of the bytes. A refused record leaves the table as it was.
 #![tactic(auto)]
+
 ghost use Rattle.std.specs.Prelude.{◌≡◌, [], ◌∷◌, ◌+◌, ◌*◌, ◌<◌, ◌≤◌, length, take, replicate};
 ghost use Rattle.std.proofs.lemmas.List.Edits.{sets};
 ghost use Rattle.language.specs.Numbers.{got, then, times};

@@ -3,6 +3,7 @@
 // Nothing is assumed of the bytes. What is read before a refusal stands in the buffers; past what is read they are as they were.
 // Equal names are equal propositions: a name is a number of the table, which has no word twice.
 #![tactic(auto)]
+
 ghost use Rattle.std.specs.Prelude.{◌≡◌, [], ◌≤◌, length, take};
 ghost use Rattle.records.specs.Reading.{Tables, naming, after_base, after_phrases, after_patterns};
 ghost use Rattle.reader.specs.Parts.{part_two, part_three, part_four};

@@ -3,6 +3,7 @@
 // Nothing is assumed of the bytes. A refused record leaves its table as it was.
 // A name is a proposition's number in the table of formed propositions; patterns and phrases are rows of numbers (specs/Rows.antt).
 #![tactic(auto)]
+
 pub mod names;
 pub mod pattern_kind;
 pub mod patterns;

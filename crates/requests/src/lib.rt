@@ -1,6 +1,7 @@
 // Requests as lines of text: fields cut at single blanks, bytes in hexadecimal, a dash for no bytes, numbers in decimal.
 // A field that is not of this form is malformed, and so is one that is longer than the buffer it is read into, or a number over 64 bits.
 #![tactic(auto)]
+
 ghost use Rattle.std.specs.Prelude.{◌≡◌, ◌+◌, ◌-◌, ◌*◌, ◌^◌, ◌<◌, ◌≤◌, [], eqb, length, get_or, drop};
 ghost use Rattle.requests.specs.Decimals.{counted, decimal};
 ghost use Rattle.requests.specs.Writing.{digit_of, hex_of};

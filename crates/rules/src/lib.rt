@@ -4,6 +4,7 @@
 // The base is a stack of numbers, the last joined on top. An argument that the rule does not take is 0, where true stands.
 // What one application may answer and leave is one answer and one table (proofs/Determined.antt).
 #![tactic(auto)]
+
 ghost use Rattle.std.specs.Prelude.{◌≡◌, ℕ, ◌<◌, ◌≤◌, get_or};
 ghost use Rattle.forms.specs.Word.{kind, left, right};
 ghost use Rattle.rules.specs.Shapes.{Safe, Narrow, modus_ponens, modus_tollens, double_negation, dilemma, dilemma_end, equivalence, equivalence_end, absurdity, left_part, right_part, left_iff, right_iff, shaped};

@@ -2,6 +2,7 @@
 // Propositions are numbers of the table of formed ones, so that what is written stays true while the table grows (proofs/Growth.antt).
 // Each function writes from token n on and answers how many tokens there then are.
 #![tactic(auto)]
+
 ghost use Rattle.std.specs.Prelude.{◌≡◌, [], ◌∷◌, ◌+◌, ◌<◌, ◌≤◌, ◌^◌, length};
 ghost use Rattle.std.proofs.lemmas.List.Edits.{sets};
 

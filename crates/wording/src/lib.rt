@@ -2,6 +2,7 @@
 // An answer is written on a page, a lent buffer, and the function answers how much of the page is then written; writing past its end changes nothing.
 // Each contract is the definition's text (specs/Answers.antt), whatever stood on the page before.
 #![tactic(auto)]
+
 ghost use Rattle.std.specs.Prelude.{◌≡◌, ◌-◌, ◌<◌, length};
 ghost use Rattle.wording.specs.Page.{page as Page·page, write};
 ghost use Rattle.wording.specs.Answers.{accepted_text, stands_text, refused_text, dots_text, here_text, around_text, sheet_text, certificate_text, first_at, operand as Answers·operand, facts_of, phrase_text, falls_text, fails_text, bytes_text, trouble_text};

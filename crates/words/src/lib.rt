@@ -3,6 +3,7 @@
 // A buffer is wiped from its front: what lies past the front stays as it was.
 // The laws of a buffer that is filled from its front are in proofs/Fronts.antt, those of a run of stores in proofs/Runs.antt.
 #![tactic(auto)]
+
 ghost use Rattle.std.specs.Prelude.{◌≡◌, [], ◌∷◌, ◌++◌, ◌<◌, ◌≤◌, ◌^◌, length, get_or, set, drop, replicate};
 ghost use Rattle.std.proofs.lemmas.List.Edits.{sets};
 

@@ -16,8 +16,8 @@ returns-else-low-v c =
     let first = c.first_group.ensures in
     let got = c.in-Got.is in
     elim c.else-low-v.branch [
-      else-low-v-via-then-low-v+else-v-top w ↦ simp (← first, got, le-leb _ _ w.if-low-v.true, lt-leb _ _ w.if-v-top.false)
-    | else-low-v-via-else-low-v w ↦ simp (← first, got, lt-leb _ _ w.if-low-v.false)
+      | else-low-v-via-then-low-v+else-v-top w ↦ simp (← first, got, le-leb _ _ w.if-low-v.true, lt-leb _ _ w.if-v-top.false)
+      | else-low-v-via-else-low-v w ↦ simp (← first, got, lt-leb _ _ w.if-low-v.false)
     ]
 
 pub returns-in-Refused : goal.returns-in-Refused

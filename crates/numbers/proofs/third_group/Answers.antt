@@ -16,9 +16,9 @@ returns-then-i-s c =
     let inside = lt-ltb _ _ c.if-i-s.true in
     let byte = c.wide-b.ensures.0 in
     elim c.else-b-gt0.branch [
-      else-b-gt0-via-then-b-gt0+then-b-lt128+else-v-le65535 w ↦ simp (inside, ← byte, lt-ltb _ _ w.if-b-gt0.true, lt-ltb _ _ w.if-b-lt128.true, lt-leb _ _ w.if-v-le65535.false)
-    | else-b-gt0-via-then-b-gt0+else-b-lt128 w ↦ simp (inside, ← byte, lt-ltb _ _ w.if-b-gt0.true, le-ltb _ _ w.if-b-lt128.false)
-    | else-b-gt0-via-else-b-gt0 w ↦ simp (inside, ← byte, le-ltb _ _ w.if-b-gt0.false)
+      | else-b-gt0-via-then-b-gt0+then-b-lt128+else-v-le65535 w ↦ simp (inside, ← byte, lt-ltb _ _ w.if-b-gt0.true, lt-ltb _ _ w.if-b-lt128.true, lt-leb _ _ w.if-v-le65535.false)
+      | else-b-gt0-via-then-b-gt0+else-b-lt128 w ↦ simp (inside, ← byte, lt-ltb _ _ w.if-b-gt0.true, le-ltb _ _ w.if-b-lt128.false)
+      | else-b-gt0-via-else-b-gt0 w ↦ simp (inside, ← byte, le-ltb _ _ w.if-b-gt0.false)
     ]
 
 pub returns : goal.returns
