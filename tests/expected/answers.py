@@ -115,7 +115,7 @@ def told(name, answer, checked):
 
 
 def cases(program, text):
-    found = re.findall(r'case\(\s*(b"[^"]*"),\s*(b"[^"]*"),\s*([0-9_]+),\s*([0-9_]+),?\s*\)', text)
+    found = re.findall(r'case\(\s*rt,\s*(b"[^"]*"),\s*(b"[^"]*"),\s*([0-9_]+),\s*([0-9_]+),?\s*\)', text)
     found = [(ast.literal_eval(n).decode(), ast.literal_eval(s).hex() or "-", int(b), int(r)) for n, s, b, r in found]
     answers = baseline(program, ["E %d %d %s" % (b, r, s) for _, s, b, r in found])
     accepted = [(s, a.split()[5]) for (_, s, _, _), a in zip(found, answers) if a.split()[1] == "0"]

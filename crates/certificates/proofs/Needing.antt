@@ -11,7 +11,6 @@ use Rattle.language.specs.Plain.{Plain, inferences}
 use Rattle.language.specs.Certificate.{listed, listed_all, needed}
 use Rattle.theorems.proofs.Members.{◌∈◌}
 use Rattle.theorems.proofs.Listing.{Names as Naming, names_map, needed_has}
-use Rattle.forms.specs.Table.{tree}
 use Rattle.bindings.specs.Stands.{Is}
 use Rattle.certificates.specs.declared.Head.{Head}
 use Rattle.certificates.specs.Marks.{Ready, Listable, Lists}

@@ -13,7 +13,7 @@ use Rattle.language.specs.Certificate.{record_of, records, listing}
 use Rattle.theorems.proofs.Members.{get_d_in}
 use Rattle.theorems.proofs.Closed.{PartsIn}
 use Rattle.forms.specs.Word.{code, kind, left, right}
-use Rattle.forms.specs.Table.{tree, formed, Row}
+use Rattle.forms.specs.Table.{formed, Row}
 use Rattle.bindings.specs.Stands.{Is}
 use Rattle.certificates.specs.Emitted.{Fits, Emitted, placed, part_bytes, word_bytes, PartsPlaced}
 use Rattle.certificates.specs.Told.{Recording, Records}

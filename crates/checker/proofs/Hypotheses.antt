@@ -8,7 +8,7 @@ use lib.ListN.{length, set, take}
 use lib.Seq.{length-take-le}
 use Rattle.language.specs.Form.{Form, cond, bin}
 use Rattle.language.specs.Numbers.{Got, got, then}
-use Rattle.language.specs.Check.{Counted, node, concluded}
+use Rattle.language.specs.Check.{Counted, concluded}
 use Rattle.forms.specs.declared.Formed.{Formed}
 use Rattle.forms.specs.Word.{bin_r, code, Below}
 use Rattle.forms.specs.Interned.{Interned}

@@ -8,7 +8,7 @@ use lib.ListN.{length, get_or, take}
 use lib.Seq.{length-take-le}
 use Rattle.language.specs.Refusals.{premise_missing}
 use Rattle.language.specs.Form.{Form, verum, members}
-use Rattle.language.specs.Rules.{arity, Ruled, gives, misshapen, table, ruled}
+use Rattle.language.specs.Rules.{arity, Ruled, gives, misshapen, ruled}
 use Rattle.language.specs.Numbers.{Got, got, check, below, times}
 use Rattle.language.specs.Read.{reference}
 use Rattle.language.specs.Check.{Counted, ruled_in, concluded}

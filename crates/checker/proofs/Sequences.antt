@@ -6,7 +6,7 @@ use native.Mathlib.Omega.{arith}
 use lib.ListN.{length, set}
 use Rattle.language.specs.Form.{Form}
 use Rattle.language.specs.Numbers.{got, then}
-use Rattle.language.specs.Check.{Counted, node, concluded}
+use Rattle.language.specs.Check.{Counted, concluded}
 use Rattle.rules.specs.Base.{base_of}
 use Rattle.checker.specs.declared.walking.Walked.{Walked}
 use Rattle.checker.specs.declared.walking.Walked.TheVariants.{Concluded, Refused}

@@ -3,7 +3,7 @@ use Prim.Native.Nat.{ℕ}
 use mathlib.Core.Path.{◌≡◌, sym, ap, ◌∙◌}
 use mathlib.Core.List.{List}
 use lib.Dec.{ltb}
-use Rattle.language.specs.Numbers.{Got, got, no, number}
+use Rattle.language.specs.Numbers.{got, no, number}
 use Rattle.numbers.specs.declared.Number.{Number}
 use Rattle.numbers.specs.declared.Number.TheVariants as read
 use Rattle.numbers.specs.Gotten.{gotten}

@@ -63,7 +63,7 @@ fn read_conclusion(s: &[u8], count: usize, rules: Inferences, at: usize) -> Proo
 }
 
 // The node at `at`, with so much nesting left, after so many nodes. The limits are looked at once its kind is read.
-#[cycle(read_node_read_rest_read_two_read_under)]
+#[cycle(node_reading)]
 fn read_node(s: &[u8], count: usize, d: usize, used: usize, at: usize) -> NodesRead
     ensures { (ps : List Form) → length ps ≡ count → result ≡ tallied (node d s.now ps used at) }
 {
@@ -79,7 +79,7 @@ fn read_node(s: &[u8], count: usize, d: usize, used: usize, at: usize) -> NodesR
 }
 
 // What follows a node's kind.
-#[cycle(read_node_read_rest_read_two_read_under)]
+#[cycle(node_reading)]
 fn read_rest(s: &[u8], count: usize, d: usize, used: usize, kind: usize, a: usize) -> NodesRead
     requires { (used < 7168) × (kind ≤ 2) }
     ensures { (ps : List Form) (at : ℕ) → length ps ≡ count → result ≡ tallied (rest_by (node d s.now ps) s.now ps used at kind a) }
@@ -92,7 +92,7 @@ fn read_rest(s: &[u8], count: usize, d: usize, used: usize, kind: usize, a: usiz
 }
 
 // Two nodes, one after the other.
-#[cycle(read_node_read_rest_read_two_read_under)]
+#[cycle(node_reading)]
 fn read_two(s: &[u8], count: usize, d: usize, used: usize, a: usize) -> NodesRead
     requires { used < 7168 }
     ensures { (ps : List Form) → length ps ≡ count → result ≡ tallied (two_at d s.now a ps used) }
@@ -110,7 +110,7 @@ fn read_two(s: &[u8], count: usize, d: usize, used: usize, a: usize) -> NodesRea
 }
 
 // A hypothesis, then a node.
-#[cycle(read_node_read_rest_read_two_read_under)]
+#[cycle(node_reading)]
 fn read_under(s: &[u8], count: usize, d: usize, used: usize, a: usize) -> NodesRead
     requires { used < 7168 }
     ensures { (ps : List Form) → length ps ≡ count → result ≡ tallied (under_at d s.now a ps used) }

@@ -31,7 +31,7 @@ pub(super) enum Walked {
 }
 
 // The node at `at`, with so much nesting left, over n words of the table and b numbers of the base.
-#[cycle(in_turn_under_walk)]
+#[cycle(node_walk)]
 pub(super) fn walk(
     t: &mut [u32],
     base: &mut [u32],
@@ -55,7 +55,7 @@ pub(super) fn walk(
 }
 
 // One proof, then another that sees its conclusion.
-#[cycle(in_turn_under_walk)]
+#[cycle(node_walk)]
 fn in_turn(
     t: &mut [u32],
     base: &mut [u32],
@@ -79,7 +79,7 @@ fn in_turn(
 }
 
 // A proof under a hypothesis, which joins the base for it.
-#[cycle(in_turn_under_walk)]
+#[cycle(node_walk)]
 fn under(
     t: &mut [u32],
     base: &mut [u32],

@@ -2,14 +2,14 @@
 use mathlib.Core.Path.{◌≡◌, refl, sym, ap, subst, ◌∙◌}
 use mathlib.Core.Bool.{Bool, true, false}
 use mathlib.Core.List.{List, [], ◌++◌, append_assoc, append-nil}
-use Prim.Native.Nat.{ℕ, ◌+◌, ◌≤◌, ◌<◌}
+use Prim.Native.Nat.{ℕ, ◌≤◌, ◌<◌}
 use native.Mathlib.Omega.{arith}
 use native.Mathlib.Nat.{le_refl}
 use lib.Dec.{eqb}
 use Rattle.language.specs.Refusals.{wrong_kind, announced_differs}
 use Rattle.language.specs.Form.{Form, same}
 use Rattle.language.specs.Values.{Val, Env, Out, out, next, must, as_form}
-use Rattle.language.specs.Run.{evaluate, Derived, derived, deduced, deduce_step, deduce}
+use Rattle.language.specs.Run.{evaluate, Derived, deduced, deduce_step, deduce}
 use Rattle.forms.specs.Table.{tree}
 use Rattle.forms.proofs.Trees.{same_at}
 use Rattle.bindings.specs.declared.Value.{Value}
@@ -23,7 +23,7 @@ use Rattle.expressions.specs.Machine.{Shared, mk as mkE, done, refused as refuse
 use Rattle.expressions.specs.Asked.{Text, Row, Ready as ReadyE}
 use Rattle.expressions.specs.Meets.{Evaluated}
 use Rattle.deductions.specs.declared.Conclusion.{Conclusion}
-use Rattle.deductions.specs.Machine.{M, inner, remaining, bound, moved, concluded, refused, out_of, compared_by, compared_of}
+use Rattle.deductions.specs.Machine.{M, inner, remaining, moved, concluded, refused, out_of, compared_by, compared_of}
 use Rattle.deductions.specs.Asked.{In, Setting, Ready}
 use Rattle.deductions.specs.Meets.{Grew, Meets, Deduced, Stepped}
 use Rattle.deductions.proofs.Sorts.{proposition, no_proposition}

@@ -1,12 +1,12 @@
 -- What a callee's answer comes to: what the language gives there, with the state that then stands for the same and more; or the same refusal.
 use mathlib.Core.Path.{◌≡◌, refl, sym, ap, ◌∙◌}
 use mathlib.Core.List.{List, [], ◌++◌}
-use Prim.Native.Nat.{ℕ, ◌+◌, ◌-◌, ◌≤◌}
+use Prim.Native.Nat.{ℕ, ◌+◌, ◌≤◌}
 use native.Mathlib.Nat.{le_refl}
 use lib.ListN.{length}
 use Rattle.language.specs.Form.{Form}
 use Rattle.language.specs.Values.{Val, Env, Out, out, stop, with_all}
-use Rattle.language.specs.Run.{evaluate, Derived, derived, Argument, argument, values_of, lemmas, joined}
+use Rattle.language.specs.Run.{evaluate, Derived, Argument, values_of, lemmas, joined}
 use Rattle.bindings.specs.declared.Value.{Value}
 use Rattle.bindings.specs.Stands.{Is, Stands, Chain}
 use Rattle.tokens.specs.Tells.{Tells, TellsLemmas}

@@ -9,7 +9,7 @@ use lib.Seq.{sets, length-sets, length-take-le}
 use borrow.Author.Tests.{eq-eqb, ne_eqb}
 use Rattle.language.specs.Refusals.{wrong_kind, wrong_count, premise_missing}
 use Rattle.language.specs.Form.{Form, verum, members}
-use Rattle.language.specs.Rules.{arity, Ruled, gives, misshapen, table, ruled}
+use Rattle.language.specs.Rules.{arity, Ruled, gives, misshapen, ruled}
 use Rattle.language.specs.Plain.{infer}
 use Rattle.language.specs.Syntax.{function, method}
 use Rattle.language.specs.Values.{Val, form, con_v, rule_v, closure, Env, empty, ◌▸◌, Out, out, stop, must, as_form, as_forms, with_all, scope}
@@ -33,7 +33,7 @@ use Rattle.expressions.specs.Asked.{Text}
 use Rattle.deductions.specs.declared.Conclusion.{Conclusion}
 use Rattle.deductions.specs.declared.Taken.{Taken}
 use Rattle.deductions.specs.declared.Taken.TheVariants.{Props, Other}
-use Rattle.deductions.specs.Machine.{M, inner, remaining, bound, refused, out_of, taken_by, taken_at, Long, inferred_of, Inferred}
+use Rattle.deductions.specs.Machine.{M, remaining, bound, refused, out_of, taken_by, taken_at, Long, inferred_of, Inferred}
 use Rattle.rules.specs.Base.{Alike}
 use Rattle.deductions.specs.Asked.{Setting, Applicable}
 use Rattle.deductions.specs.Meets.{Meets, Applying}

@@ -12,7 +12,7 @@ use language::refusal;
 use records::rows;
 
 // A dlet: the value of the first, whose lemma joins the base, then the second with it bound.
-#[cycle(announced_bind_block_steps_apply_arguments_call_called_deduce_clause_matched_either_assume_suppose_under_step)]
+#[cycle(deduction)]
 pub(crate) fn bind(
     forms: &mut [u32],
     binds: &mut [u32],
@@ -46,7 +46,7 @@ pub(crate) fn bind(
 }
 
 // A by: the deduction, then the announced proposition, which must be its conclusion.
-#[cycle(announced_bind_block_steps_apply_arguments_call_called_deduce_clause_matched_either_assume_suppose_under_step)]
+#[cycle(deduction)]
 pub(crate) fn announced(
     forms: &mut [u32],
     binds: &mut [u32],
@@ -97,7 +97,7 @@ fn compare(v: Value, st: State, n: usize, q: usize, k: usize) -> Conclusion
 }
 
 // A block: its steps.
-#[cycle(announced_bind_block_steps_apply_arguments_call_called_deduce_clause_matched_either_assume_suppose_under_step)]
+#[cycle(deduction)]
 pub(crate) fn block(
     forms: &mut [u32],
     binds: &mut [u32],
@@ -128,7 +128,7 @@ pub(crate) fn block(
 }
 
 // A block's steps, so many of them from a place on: each sees the conclusions of earlier ones.
-#[cycle(announced_bind_block_steps_apply_arguments_call_called_deduce_clause_matched_either_assume_suppose_under_step)]
+#[cycle(deduction)]
 fn steps(
     forms: &mut [u32],
     binds: &mut [u32],

@@ -13,7 +13,7 @@ use language::refusal;
 use records::rows;
 
 // A method call: the operator, the arguments left to right, each in the caller's base, then what the operator does with them.
-#[cycle(announced_bind_block_steps_apply_arguments_call_called_deduce_clause_matched_either_assume_suppose_under_step)]
+#[cycle(deduction)]
 pub(crate) fn call(
     forms: &mut [u32],
     binds: &mut [u32],
@@ -48,7 +48,7 @@ pub(crate) fn call(
 }
 
 // The call k of the operator v with n arguments.
-#[cycle(announced_bind_block_steps_apply_arguments_call_called_deduce_clause_matched_either_assume_suppose_under_step)]
+#[cycle(deduction)]
 fn called(
     forms: &mut [u32],
     binds: &mut [u32],
@@ -95,7 +95,7 @@ fn called(
 
 // The arguments whose phrases stand from a place on, so many of them, each bound on top of those before it. A lemma joins the base once the
 // arguments after it have run.
-#[cycle(announced_bind_block_steps_apply_arguments_call_called_deduce_clause_matched_either_assume_suppose_under_step)]
+#[cycle(deduction)]
 fn arguments(
     forms: &mut [u32],
     binds: &mut [u32],
@@ -142,7 +142,7 @@ fn arguments(
 }
 
 // What the operator v makes of n arguments, which are bound where it runs.
-#[cycle(announced_bind_block_steps_apply_arguments_call_called_deduce_clause_matched_either_assume_suppose_under_step)]
+#[cycle(deduction)]
 fn apply(
     forms: &mut [u32],
     binds: &mut [u32],

@@ -14,7 +14,7 @@ use records::rows;
 
 // A dmatch: the value of the first phrase must be a proposition, a deduction there gives its value only; the first clause whose pattern
 // fits is run.
-#[cycle(announced_bind_block_steps_apply_arguments_call_called_deduce_clause_matched_either_assume_suppose_under_step)]
+#[cycle(deduction)]
 pub(crate) fn matched(
     forms: &mut [u32],
     binds: &mut [u32],
@@ -49,7 +49,7 @@ pub(crate) fn matched(
 }
 
 // The first clause of the dmatch k whose pattern fits the proposition p, run with what the pattern binds.
-#[cycle(announced_bind_block_steps_apply_arguments_call_called_deduce_clause_matched_either_assume_suppose_under_step)]
+#[cycle(deduction)]
 fn clause(
     forms: &mut [u32],
     binds: &mut [u32],

@@ -12,7 +12,7 @@ use language::{refusal, rule};
 use records::rows;
 
 // An assume: the hypothesis' value, then the deduction under it; gives the conditional.
-#[cycle(announced_bind_block_steps_apply_arguments_call_called_deduce_clause_matched_either_assume_suppose_under_step)]
+#[cycle(deduction)]
 pub(crate) fn assume(
     forms: &mut [u32],
     binds: &mut [u32],
@@ -53,7 +53,7 @@ pub(crate) fn assume(
 }
 
 // A suppose-absurd: the hypothesis' value, then the deduction under it, which must conclude false; gives the negation.
-#[cycle(announced_bind_block_steps_apply_arguments_call_called_deduce_clause_matched_either_assume_suppose_under_step)]
+#[cycle(deduction)]
 pub(crate) fn suppose(
     forms: &mut [u32],
     binds: &mut [u32],
@@ -95,7 +95,7 @@ pub(crate) fn suppose(
 }
 
 // The deduction k in the base with the hypothesis p, which is written before its proof.
-#[cycle(announced_bind_block_steps_apply_arguments_call_called_deduce_clause_matched_either_assume_suppose_under_step)]
+#[cycle(deduction)]
 fn under(
     forms: &mut [u32],
     binds: &mut [u32],

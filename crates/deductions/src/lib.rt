@@ -76,7 +76,7 @@ enum Taken {
 }
 
 // The deduction k.
-#[cycle(announced_bind_block_steps_apply_arguments_call_called_deduce_clause_matched_either_assume_suppose_under_step)]
+#[cycle(deduction)]
 pub fn deduce(
     forms: &mut [u32],
     binds: &mut [u32],
@@ -127,7 +127,7 @@ fn begin(at: Progress) -> Progress
 }
 
 // The deduction k, once it is entered.
-#[cycle(announced_bind_block_steps_apply_arguments_call_called_deduce_clause_matched_either_assume_suppose_under_step)]
+#[cycle(deduction)]
 fn step(
     forms: &mut [u32],
     binds: &mut [u32],
@@ -165,7 +165,7 @@ fn step(
 }
 
 // The phrase k, of either class. A deduction's tokens are written after a 1, as something follows them.
-#[cycle(announced_bind_block_steps_apply_arguments_call_called_deduce_clause_matched_either_assume_suppose_under_step)]
+#[cycle(deduction)]
 fn either(
     forms: &mut [u32],
     binds: &mut [u32],

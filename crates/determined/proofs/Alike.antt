@@ -11,7 +11,7 @@ use Rattle.forms.specs.Table.{number_of}
 use Rattle.forms.proofs.Trees.{number_at}
 use Rattle.expressions.specs.Machine as expressions
 use Rattle.expressions.specs.Meets as expressions-meets
-use Rattle.deductions.specs.Machine.{M, inner, remaining, MOut, concluded, refused}
+use Rattle.deductions.specs.Machine.{M, inner, MOut, concluded, refused}
 use Rattle.deductions.specs.Meets.{Meets}
 use Rattle.determined.specs.Alike.{ValuesAlike, ConclusionsAlike, ConclusionNumber}
 

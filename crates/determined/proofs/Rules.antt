@@ -1,5 +1,5 @@
 -- The public functions of `rules`: each by the equations that its contract has.
-use mathlib.Core.Path.{refl, ap}
+use mathlib.Core.Path.{refl}
 use Rattle.rules.proofs.Determined.{ruling_unique}
 use Rattle.determined.specs.Once.{AnyTwo}
 use Rattle.determined.specs.Rules.{Rules}

@@ -8,7 +8,6 @@ use lib.ListN.{length, take}
 use lib.Dec.{leb}
 use Rattle.language.specs.Refusals.{budget_over, scratch_short}
 use Rattle.language.specs.Form.{Form}
-use Rattle.language.specs.Syntax.{Sheet}
 use Rattle.language.specs.Numbers.{got, pick}
 use Rattle.language.specs.Plain.{inferences}
 use Rattle.language.specs.Run.{Derived}

@@ -16,7 +16,7 @@ use Rattle.language.specs.Run.{constructed, takes, called, evaluate, Evaluate}
 use Rattle.words.proofs.Fronts.{length_front}
 use Rattle.forms.specs.Word.{word, Rec, neg_r, bin_r, code, Below}
 use Rattle.forms.specs.Interned.{Interned, having}
-use Rattle.forms.specs.Table.{tree, formed, Table}
+use Rattle.forms.specs.Table.{formed, Table}
 use Rattle.forms.proofs.Positions.{having_paid}
 use Rattle.forms.proofs.Interning.{sized}
 use Rattle.forms.proofs.Growth.{after}

@@ -55,7 +55,7 @@ enum Piece {
 }
 
 // The expression k in the bindings at env, with so much nesting left.
-#[cycle(apply_arguments_bind_call_clause_evaluate_matched)]
+#[cycle(evaluation)]
 pub fn evaluate(
     forms: &mut [u32],
     binds: &mut [u32],
@@ -138,7 +138,7 @@ pub fn bind_parts(binds: &mut [u32], n: usize, env: usize, parts: Parts) -> usiz
 }
 
 // A call: the operator, the arguments left to right, then what the operator does with them.
-#[cycle(apply_arguments_bind_call_clause_evaluate_matched)]
+#[cycle(evaluation)]
 fn call(
     forms: &mut [u32],
     binds: &mut [u32],
@@ -180,7 +180,7 @@ fn call(
 }
 
 // The arguments whose phrases stand from a place on, so many of them, each bound on top of those before it.
-#[cycle(apply_arguments_bind_call_clause_evaluate_matched)]
+#[cycle(evaluation)]
 fn arguments(
     forms: &mut [u32],
     binds: &mut [u32],
@@ -222,7 +222,7 @@ fn arguments(
 }
 
 // What the operator v makes of n arguments that are bound at e.
-#[cycle(apply_arguments_bind_call_clause_evaluate_matched)]
+#[cycle(evaluation)]
 fn apply(
     forms: &mut [u32],
     binds: &mut [u32],
@@ -255,7 +255,7 @@ fn apply(
 }
 
 // A let: the value of the first, then the second with it bound.
-#[cycle(apply_arguments_bind_call_clause_evaluate_matched)]
+#[cycle(evaluation)]
 fn bind(
     forms: &mut [u32],
     binds: &mut [u32],
@@ -282,7 +282,7 @@ fn bind(
 }
 
 // A match: the value of the first phrase must be a proposition; the first clause whose pattern fits is run.
-#[cycle(apply_arguments_bind_call_clause_evaluate_matched)]
+#[cycle(evaluation)]
 fn matched(
     forms: &mut [u32],
     binds: &mut [u32],
@@ -309,7 +309,7 @@ fn matched(
 }
 
 // The first clause of the match k whose pattern fits the proposition p, run with what the pattern binds.
-#[cycle(apply_arguments_bind_call_clause_evaluate_matched)]
+#[cycle(evaluation)]
 fn clause(
     forms: &mut [u32],
     binds: &mut [u32],
@@ -343,8 +343,8 @@ fn clause(
 
 // An expression that runs no other.
 fn plain(binds: &mut [u32], phrases: &[u32], st: State, env: usize, k: usize) -> Outcome
-    requires by_index { (f q : List ℕ) × Ready (shared phrases.now q) (mk f binds.old st) env k 4 4 }
-    requires fact { (kind phrases.now k ≡ 6 → ⊥) × (kind phrases.now k ≡ 7 → ⊥) × (kind phrases.now k ≡ 9 → ⊥) }
+    requires ready { (f q : List ℕ) × Ready (shared phrases.now q) (mk f binds.old st) env k 4 4 }
+    requires runs_no_other { (kind phrases.now k ≡ 6 → ⊥) × (kind phrases.now k ≡ 7 → ⊥) × (kind phrases.now k ≡ 9 → ⊥) }
     ensures { (f q : List ℕ) (d : ℕ) → Stepped (shared phrases.now q) d env k (mk f binds.old st) (out_of f binds.new result) }
 {
     let kind = words::at(phrases, rows::PHRASE * k);

@@ -1,6 +1,6 @@
 -- A sheet's bytes read into numbers: the propositions as words of the table, patterns and phrases as rows, the base as table numbers.
 -- What was read before a refusal is kept, so that every buffer is determined for every input.
-use Rattle.std.specs.Prelude.{ℕ, suc, ◌+◌, List, [], ◌∷◌, ◌++◌, ◌&&◌, ◌||◌, length, get_or, ltb, leb, eqb}
+use Rattle.std.specs.Prelude.{ℕ, ◌+◌, List, [], ◌∷◌, ◌++◌, ◌&&◌, ◌||◌, length, get_or, ltb, leb, eqb}
 use Rattle.language.specs.Refusals.{out_of_range, wrong_reference, bytes_after}
 use Rattle.language.specs.Numbers.{Got, got, no, then, check, from, below, times, record_at}
 use Rattle.forms.specs.Word.{word}

@@ -1,5 +1,5 @@
 -- Rows: how patterns and phrases lie in numbers, and what a row says. A pattern is five numbers, a phrase twelve, the kind first.
-use Rattle.std.specs.Prelude.{ℕ, suc, ◌+◌, List, [], ◌∷◌, ◌++◌, Bool, true, false, get_or, take, drop, replicate, eqb}
+use Rattle.std.specs.Prelude.{ℕ, List, [], ◌∷◌, ◌++◌, Bool, true, false, get_or, take, drop, replicate, eqb}
 use Rattle.language.specs.Form.{Form, conj, disj, cond, bicond}
 use Rattle.language.specs.Syntax.{Pattern, any, exactly, neg_p, bin_p, Clause, Sort, function, method, Phrase, expr, dedu}
 use Rattle.language.specs.Syntax.{prop, var, con, rule, abstract, call, bind, match, apply, assume, suppose, dlet, by, block, dmatch}

@@ -1,5 +1,5 @@
 -- The checker says that a certificate stands exactly when its bytes read and the plain rules prove what it states.
-use Prim.Native.Nat.{ℕ, suc, ◌+◌, ◌≤◌, ◌<◌}
+use Prim.Native.Nat.{ℕ, ◌+◌, ◌≤◌, ◌<◌}
 use native.Mathlib.Omega.{arith}
 use mathlib.Core.Path.{◌≡◌, refl, ap, ◌∙◌}
 use mathlib.Core.List.{List, [], ◌∷◌}
@@ -10,7 +10,7 @@ use borrow.Author.Tests.{eqb-true}
 use Rattle.language.specs.Refusals.{out_of_range, bytes_after, premise_missing, certificate_over, stated_differs}
 use Rattle.language.specs.Form.{Form, verum, falsum, same, members}
 use Rattle.language.specs.Rules.{arity, Ruled, gives, misshapen, ruled}
-use Rattle.language.specs.Numbers.{Got, got, no, pick, from, below, times}
+use Rattle.language.specs.Numbers.{Got, got, no, pick, from, times}
 use Rattle.language.specs.Read.{proposition, reference}
 use Rattle.language.specs.Plain.{Plain, infer, seq, under, Proves, by_rule, in_turn, assuming, inferences}
 use Rattle.language.specs.Check.{Node, rule_n, seq_n, under_n, plain, Counted, rule_node, ReadNode, inner, node, Certificate, certificate_at}

@@ -1,5 +1,5 @@
 -- Answers put together: one text after another, by the tests on the way.
-use Prim.Native.Nat.{ℕ, ◌+◌, ◌-◌, ◌≤◌, ◌<◌}
+use Prim.Native.Nat.{ℕ, ◌-◌, ◌≤◌, ◌<◌}
 use mathlib.Core.Path.{◌≡◌, ◌∙◌}
 use mathlib.Core.List.{List, ◌++◌, append-nil}
 use lib.ListN.{length, take, drop}

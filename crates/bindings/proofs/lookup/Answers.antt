@@ -1,10 +1,7 @@
 -- Along the chain: the answer from the start is the answer from here.
-use mathlib.Core.Path.{◌≡◌, refl, sym, ap, ◌∙◌}
-use borrow.Author.Rules.{rules}
+use mathlib.Core.Path.{sym, ap, ◌∙◌}
 use Rattle.bindings.specs.declared.Binding.{Binding}
 use Rattle.bindings.specs.declared.Found.TheVariants.{Bound}
-use Rattle.bindings.specs.Numbers.{found}
-use Rattle.bindings.specs.Stands.{Linked}
 use Rattle.bindings.proofs.Numbers.{found_end, found_here, found_on}
 use Rattle.bindings.proofs.Chains.{linked_low, linked_on}
 use Rattle.bindings.proofs.lookup.Goals as goal

@@ -1,19 +1,6 @@
 -- The parts of a proposition are earlier in the table, so its number falls. Each way lists them, then enters the proposition behind them.
 use native.Mathlib.Omega.{arith}
-use mathlib.Core.Path.{◌∙◌}
 use Rattle.certificates.proofs.Marking.{old_lists, open_enter, open_lists, open_plain, first_below, first_listable, open_one, second_below, second_listable, open_two}
-use Prim.Native.Nat.{ℕ, ◌<◌}
-use borrow.Fn.Kinds.{In}
-use borrow.Fn.PlainCycle.{Measures, is, falls, and}
-use Rattle.certificates.proofs.list.Reads as list
-use Rattle.certificates.proofs.list.Kinds as list-kinds
-use Rattle.certificates.proofs.+list.Lts-list as list-lts
-use Rattle.certificates.proofs.enter.Reads as enter-reads
-use Rattle.forms.proofs.kind_of.Reads as kind-of-reads
-use Rattle.forms.proofs.left_of.Reads as left-of-reads
-use Rattle.forms.proofs.right_of.Reads as right-of-reads
-use Rattle.words.proofs.at.Reads as at_reads
-use Rattle.certificates.proofs.+list.Tie.{close}
 use Rattle.certificates.proofs.+list.Goals as goal
 
 pub returns-then-at-gt0 : goal.returns-then-at-gt0

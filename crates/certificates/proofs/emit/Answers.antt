@@ -1,5 +1,4 @@
 -- The count, the records, the proof and the conclusion, one after another.
-use mathlib.Core.Path.{◌∙◌}
 use Rattle.certificates.proofs.Certifying.{count_fits, recording, proving, conclusion_fits, emits}
 use Rattle.certificates.proofs.emit.Goals as goal
 

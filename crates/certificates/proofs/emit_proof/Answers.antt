@@ -1,6 +1,5 @@
 -- What was emitted and what is ahead make up the proof.
-use Prim.Native.Nat.{◌-◌}
-use Rattle.certificates.proofs.Proving.{ProofsAt, proofs_start, place_fits, proofs_name, head_fits_at, proofs_head, proofs_end_at}
+use Rattle.certificates.proofs.Proving.{proofs_start, place_fits, proofs_name, head_fits_at, proofs_head, proofs_end_at}
 use Rattle.certificates.proofs.emit_proof.Goals as goal
 
 pub loop-i-init : goal.loop-i-init

@@ -1,7 +1,5 @@
 -- What was emitted and the records from here on make up all of them.
-use Prim.Native.Nat.{◌-◌}
-use Rattle.certificates.proofs.Marking.{few}
-use Rattle.certificates.proofs.Recording.{RecordsAt, records_start, record_fits, records_more, records_end}
+use Rattle.certificates.proofs.Recording.{records_start, record_fits, records_more, records_end}
 use Rattle.certificates.proofs.emit_records.Goals as goal
 
 pub loop-i-init : goal.loop-i-init

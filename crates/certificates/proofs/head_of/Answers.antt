@@ -4,7 +4,6 @@ use Prim.Native.Nat.{ℕ, zero, suc}
 use mathlib.Core.Path.{◌≡◌, refl}
 use Rattle.certificates.specs.declared.Head.{Head}
 use Rattle.certificates.specs.Emitted.{head_by}
-use borrow.Author.Rules.{rules}
 use Rattle.certificates.proofs.head_of.Goals as goal
 
 other : (x y : ℕ) → (x ≡ 0 → ⊥) → (x ≡ 1 → ⊥) → ◌≡◌ {A = Head} (record { width = 1; names = 1; rules = record { 0 = 0 } }) (head_by x y)

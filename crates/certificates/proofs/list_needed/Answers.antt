@@ -1,6 +1,5 @@
 -- What was listed and what is ahead make up what the proof needs.
-use Prim.Native.Nat.{◌-◌}
-use Rattle.certificates.proofs.Needing.{Needing, needing_start, name_listable, needing_name, needing_head, needing_end}
+use Rattle.certificates.proofs.Needing.{needing_start, name_listable, needing_name, needing_head, needing_end}
 use Rattle.certificates.proofs.list_needed.Goals as goal
 
 pub loop-i-init : goal.loop-i-init

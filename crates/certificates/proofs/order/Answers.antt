@@ -1,5 +1,4 @@
 -- A wiped listing, grown by what the proof needs, then by the conclusion.
-use mathlib.Core.Path.{◌∙◌}
 use Rattle.certificates.proofs.Ordering.{telling, concluding, orders}
 use Rattle.certificates.proofs.order.Goals as goal
 

@@ -2,7 +2,7 @@
 use native.Mathlib.Omega.{arith}
 use mathlib.Core.Path.{sym, ap, ◌∙◌}
 use mathlib.Core.Bool.{not}
-use lib.Seq.{length_front, length-take-le}
+use lib.Seq.{length-take-le}
 use Rattle.language.specs.Doors.{check_lengths}
 use Rattle.theorems.proofs.Buffers.{enough_at, over, over_enough}
 use Rattle.checker.specs.Verdicts.{scratch}

@@ -3,7 +3,6 @@ use Prim.Native.Nat.{ℕ}
 use mathlib.Core.Path.{ap, ◌∙◌}
 use mathlib.Core.List.{List}
 use lib.ListN.{get_or}
-use native.Mathlib.Omega.{arith}
 use Rattle.evaluator.proofs.Rooting.{sheet_stops, sheet_roots, sheet_goes_on}
 use Rattle.evaluator.proofs.answer.Goals as goal
 

@@ -2,7 +2,7 @@
 use native.Mathlib.Omega.{arith}
 use mathlib.Core.Path.{refl, sym, ap, ◌∙◌}
 use mathlib.Core.Bool.{not}
-use lib.Seq.{length_front, length-take-le}
+use lib.Seq.{length-take-le}
 use Rattle.language.specs.Doors.{evaluation_lengths}
 use Rattle.evaluator.specs.Door.{scratch}
 use Rattle.theorems.proofs.Buffers.{enough_at, fronts, fronts_long, over, over_enough}

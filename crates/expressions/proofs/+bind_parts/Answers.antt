@@ -1,8 +1,6 @@
 -- The first part is bound, then the others on top of it: their count falls.
 use native.Mathlib.Omega.{arith}
-use mathlib.Core.Path.{◌∙◌}
-use Rattle.expressions.proofs.Parts.{none_bound, bound_fits, bindable_later, more_bound}
-use Prim.Native.Nat.{ℕ, ◌<◌}
+use Rattle.expressions.proofs.Parts.{none_bound, bindable_later, more_bound}
 use Rattle.expressions.proofs.+bind_parts.Goals as goal
 
 pub returns-then-parts-eq0 : goal.returns-then-parts-eq0

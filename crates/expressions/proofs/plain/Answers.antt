@@ -1,6 +1,5 @@
 -- The tests on the kind say which expression it is.
-use native.Mathlib.Omega.{arith}
-use Rattle.expressions.proofs.Steps.{proposition, variable_is, constructor, ruled, closure_is, fix_is, linked, fix_asks, ready_small}
+use Rattle.expressions.proofs.Steps.{proposition, variable_is, constructor, ruled, closure_is, fix_is, fix_asks}
 use Rattle.expressions.proofs.plain.Goals as goal
 
 pub returns-then-kind-eq-PROPOSITION : goal.returns-then-kind-eq-PROPOSITION
@@ -19,7 +18,7 @@ pub fix-requires : goal.fix-requires
 fix-requires c =
     let at1 = c.at-kind in
     let at2 = c.at-a in
-    fix_asks _ _ _ _ _ _ c.requires.by_index.2 at1.ensures at2.ensures c.if-kind-eq-FIX.true
+    fix_asks _ _ _ _ _ _ c.requires.ready.2 at1.ensures at2.ensures c.if-kind-eq-FIX.true
 
 pub returns-then-kind-eq-FIX : goal.returns-then-kind-eq-FIX
 returns-then-kind-eq-FIX c =
@@ -27,11 +26,11 @@ returns-then-kind-eq-FIX c =
     let at2 = c.at-a in
     let if5 = c.if-kind-eq-FIX in
     λ f q d.
-    let z = fix_asks _ _ _ _ _ _ c.requires.by_index.2 at1.ensures at2.ensures if5.true in
+    let z = fix_asks _ _ _ _ _ _ c.requires.ready.2 at1.ensures at2.ensures if5.true in
     fix_is _ _ _ _ _ _ _ _ _ at1.ensures at2.ensures if5.true z.0 c.fix.ensures.0 c.fix.ensures.1
 
 pub returns : goal.returns
 returns c =
     let at1 = c.at-kind in
     λ f q d.
-    closure_is _ _ _ _ _ _ _ at1.ensures c.if-kind-eq-PROPOSITION.false c.if-kind-eq-VARIABLE.false c.if-kind-eq-CONSTRUCTOR.false c.if-kind-eq-RULE.false c.if-kind-eq-FIX.false c.requires.fact.0 c.requires.fact.1 c.requires.fact.2 c.closure.ensures
+    closure_is _ _ _ _ _ _ _ at1.ensures c.if-kind-eq-PROPOSITION.false c.if-kind-eq-VARIABLE.false c.if-kind-eq-CONSTRUCTOR.false c.if-kind-eq-RULE.false c.if-kind-eq-FIX.false c.requires.runs_no_other.0 c.requires.runs_no_other.1 c.requires.runs_no_other.2 c.closure.ensures

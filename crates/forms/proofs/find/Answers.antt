@@ -1,9 +1,6 @@
 -- The words passed so far are not the one that is sought.
-use Prim.Native.Nat.{◌-◌}
 use mathlib.Core.Path.{◌∙◌, sym}
-use lib.ListN.{take}
-use borrow.Author.Rules.{rules}
-use Rattle.forms.proofs.Interning.{Passed, passed_none, passed_hit, passed_more, passed_all}
+use Rattle.forms.proofs.Interning.{passed_hit, passed_more, passed_all}
 use Rattle.forms.proofs.find.Goals as goal
 
 pub returns-then-at-w : goal.returns-then-at-w

@@ -1,6 +1,5 @@
 -- The word was found among the words in use, or it is appended.
 use Rattle.forms.proofs.Interning.{interned_old, interned_new}
-use borrow.Author.Rules.{rules}
 use Rattle.forms.proofs.intern.Goals as goal
 
 pub returns-then-i-n : goal.returns-then-i-n

@@ -1,7 +1,6 @@
 -- At each return the tests on the first byte say which case of the definition holds.
 use Rattle.language.specs.Numbers.{number, check, pick}
 use borrow.Author.Tests.{lt-ltb, le-ltb}
-use borrow.Author.Rules.{rules}
 use Rattle.numbers.proofs.first_group.Goals as goal
 
 pub returns-then-b-lt128 : goal.returns-then-b-lt128

@@ -1,8 +1,6 @@
 -- What was read is a number, which the two tests hold to its range, or a refusal, which is handed on.
-use mathlib.Core.Logic.{⊎_elim}
 use Rattle.language.specs.Numbers.{from, then, check}
 use borrow.Author.Tests.{lt-leb, le-leb}
-use borrow.Author.Rules.{rules}
 use Rattle.numbers.proofs.ranged.Goals as goal
 use Rattle.numbers.proofs.ranged.Goals.{else-low-v-via-then-low-v+else-v-top, else-low-v-via-else-low-v}
 

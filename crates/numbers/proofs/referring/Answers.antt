@@ -1,7 +1,6 @@
 -- What was read is a number, which the test holds below its limit, or a refusal, which is handed on.
 use Rattle.language.specs.Numbers.{below, then, check}
 use borrow.Author.Tests.{lt-ltb, le-ltb}
-use borrow.Author.Rules.{rules}
 use Rattle.numbers.proofs.referring.Goals as goal
 
 pub returns-then-v-n : goal.returns-then-v-n

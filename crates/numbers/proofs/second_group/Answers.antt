@@ -1,7 +1,6 @@
 -- At each return the tests on the second byte say which case of the definition holds.
 use Rattle.language.specs.Numbers.{second, check, pick}
 use borrow.Author.Tests.{lt-ltb, le-ltb}
-use borrow.Author.Rules.{rules}
 use Rattle.numbers.proofs.second_group.Goals as goal
 
 pub returns-then-b-gt0 : goal.returns-then-b-gt0

@@ -1,8 +1,6 @@
 -- At each return the tests on the third byte say which case of the definition holds; where one of three fails, the form is wrong.
-use mathlib.Core.Logic.{⊎_elim}
 use Rattle.language.specs.Numbers.{third, check}
 use borrow.Author.Tests.{lt-ltb, le-ltb, lt-leb, le-leb}
-use borrow.Author.Rules.{rules}
 use Rattle.numbers.proofs.third_group.Goals as goal
 use Rattle.numbers.proofs.third_group.Goals.{else-b-gt0-via-then-b-gt0+then-b-lt128+else-v-le65535, else-b-gt0-via-then-b-gt0+else-b-lt128, else-b-gt0-via-else-b-gt0}
 

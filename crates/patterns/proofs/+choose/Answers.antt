@@ -1,16 +1,6 @@
 -- Each clause that misses leaves one clause less. The first that fits is chosen.
 use native.Mathlib.Omega.{arith}
 use Rattle.patterns.proofs.Choosing.{none_left, first_tried, others, first_fits, first_misses}
-use Prim.Native.Nat.{ℕ, ◌<◌}
-use borrow.Fn.Kinds.{In}
-use borrow.Fn.PlainCycle.{Measures, is, falls, and}
-use Rattle.patterns.proofs.choose.Reads as choose
-use Rattle.patterns.proofs.choose.Kinds as choose-kinds
-use Rattle.patterns.proofs.+choose.Lts-choose as choose-lts
-use Rattle.patterns.proofs.nothing.Reads as nothing-reads
-use Rattle.patterns.proofs.tried.Reads as tried-reads
-use Rattle.words.proofs.at.Reads as at_reads
-use Rattle.patterns.proofs.+choose.Tie.{close}
 use Rattle.patterns.proofs.+choose.Goals as goal
 
 pub returns-then-left-eq0 : goal.returns-then-left-eq0

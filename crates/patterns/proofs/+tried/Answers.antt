@@ -1,20 +1,7 @@
 -- The parts of a pattern are earlier patterns, so its number falls. At each return the row's kind and the word's kind say which case holds.
 use native.Mathlib.Omega.{arith}
 use mathlib.Core.Path.{refl}
-use Rattle.patterns.proofs.Trying.{pattern_small, kind_small, any_room, any_fits, exact_fits, left_low, left_tried, shape_misses, left_misses, neg_fits, right_low, right_tried, both_fit}
-use Prim.Native.Nat.{ℕ, ◌<◌}
-use borrow.Fn.Kinds.{In}
-use borrow.Fn.PlainCycle.{Measures, is, falls, and}
-use Rattle.patterns.proofs.tried.Reads as tried
-use Rattle.patterns.proofs.tried.Kinds as tried-kinds
-use Rattle.patterns.proofs.+tried.Lts-tried as tried-lts
-use Rattle.forms.proofs.kind_of.Reads as kind-of-reads
-use Rattle.forms.proofs.left_of.Reads as left-of-reads
-use Rattle.forms.proofs.right_of.Reads as right-of-reads
-use Rattle.patterns.proofs.exact.Reads as exact-reads
-use Rattle.patterns.proofs.extended.Reads as extended-reads
-use Rattle.words.proofs.at.Reads as at_reads
-use Rattle.patterns.proofs.+tried.Tie.{close}
+use Rattle.patterns.proofs.Trying.{any_room, any_fits, exact_fits, left_low, left_tried, shape_misses, left_misses, neg_fits, right_low, right_tried, both_fit}
 use Rattle.patterns.proofs.+tried.Goals as goal
 
 pub extended-requires : goal.extended-requires

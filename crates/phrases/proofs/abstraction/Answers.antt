@@ -7,7 +7,6 @@ use Rattle.records.specs.Reading.{row_ref}
 use Rattle.phrases.specs.Shapes.{abstraction_row}
 use Rattle.records.proofs.References.{gotten_got, gotten_no}
 use Rattle.records.proofs.Tables.{rows_long}
-use borrow.Author.Rules.{rules}
 use Rattle.phrases.proofs.abstraction.Goals as goal
 
 pub kind_of-kind-requires : goal.kind_of-kind-requires

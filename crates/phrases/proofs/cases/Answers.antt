@@ -1,9 +1,7 @@
 -- The kind and the phrase begin the row; the clauses follow.
-use native.Mathlib.Omega.{arith}
 use Rattle.language.specs.Numbers.{then}
 use Rattle.records.proofs.References.{gotten_got, gotten_no}
-use Rattle.phrases.proofs.OperandRuns.{operand_fits, two_begun, two_taken}
-use borrow.Author.Rules.{rules}
+use Rattle.phrases.proofs.OperandRuns.{operand_fits, two_taken}
 use Rattle.phrases.proofs.cases.Goals as goal
 
 pub put-requires-in-Got : goal.put-requires-in-Got

@@ -6,7 +6,6 @@ use Rattle.numbers.proofs.Bounds.{below_got}
 use Rattle.records.specs.Reading.{clause_row}
 use Rattle.records.proofs.References.{gotten_got, gotten_no}
 use Rattle.phrases.proofs.OperandRuns.{operand_fits}
-use borrow.Author.Rules.{rules}
 use Rattle.phrases.proofs.clause.Goals as goal
 
 pub put-requires : goal.put-requires

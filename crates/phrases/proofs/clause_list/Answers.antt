@@ -1,10 +1,6 @@
 -- The clauses from the start are those stored, and the rest from here.
-use Prim.Native.Nat.{◌-◌}
 use mathlib.Core.Path.{refl}
-use Rattle.phrases.specs.Shapes.{operand_at}
-use Rattle.records.specs.Answers.{rows_in}
-use Rattle.phrases.proofs.OperandRuns.{clause_run, At, at_start, at_end, stored_refused, stored_more}
-use borrow.Author.Rules.{rules}
+use Rattle.phrases.proofs.OperandRuns.{at_start, at_end, stored_refused, stored_more}
 use Rattle.phrases.proofs.clause_list.Goals as goal
 
 pub loop-i-init : goal.loop-i-init

@@ -5,7 +5,6 @@ use Rattle.numbers.proofs.Bounds.{from_got}
 use Rattle.records.specs.Reading.{clauses_row}
 use Rattle.records.proofs.References.{gotten_got, gotten_no}
 use Rattle.phrases.proofs.OperandRuns.{clauses_read}
-use borrow.Author.Rules.{rules}
 use Rattle.phrases.proofs.clauses.Goals as goal
 
 pub put-requires : goal.put-requires

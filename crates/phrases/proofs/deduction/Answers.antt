@@ -6,7 +6,6 @@ use Rattle.numbers.proofs.Bounds.{below_got}
 use Rattle.records.specs.Reading.{row_ref, dedu_row}
 use Rattle.records.proofs.References.{gotten_got, gotten_no}
 use Rattle.records.proofs.Tables.{rows_long}
-use borrow.Author.Rules.{rules}
 use Rattle.phrases.proofs.deduction.Goals as goal
 
 pub kind_of-requires : goal.kind_of-requires

@@ -2,7 +2,6 @@
 use mathlib.Core.Path.{◌∙◌, sym}
 use native.Mathlib.Omega.{arith}
 use Rattle.records.proofs.Tables.{cell_first}
-use borrow.Author.Rules.{rules}
 use Rattle.phrases.proofs.kind_of.Goals as goal
 
 pub returns : goal.returns

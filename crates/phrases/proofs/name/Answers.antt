@@ -2,8 +2,7 @@
 use Rattle.language.specs.Numbers.{then}
 use Rattle.records.specs.Rows.{phrase_cells}
 use Rattle.records.specs.Reading.{one_row}
-use Rattle.records.proofs.References.{gotten_got, gotten_no, narrow_got}
-use borrow.Author.Rules.{rules}
+use Rattle.records.proofs.References.{gotten_got, gotten_no}
 use Rattle.phrases.proofs.name.Goals as goal
 
 pub returns-in-Refused : goal.returns-in-Refused

@@ -2,7 +2,6 @@
 use Rattle.records.specs.Reading.{row_ref}
 use Rattle.phrases.specs.Shapes.{operand_at}
 use Rattle.records.proofs.Tables.{rows_long}
-use borrow.Author.Rules.{rules}
 use Rattle.phrases.proofs.operand.Goals as goal
 
 pub returns-in-Variable : goal.returns-in-Variable

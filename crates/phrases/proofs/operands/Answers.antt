@@ -1,10 +1,7 @@
 -- The operands from the start are those stored, and the rest from here.
 use native.Mathlib.Omega.{arith}
-use Prim.Native.Nat.{◌-◌}
-use Rattle.records.specs.Answers.{rows_in}
 use Rattle.records.proofs.References.{gotten_got, gotten_no}
-use Rattle.phrases.proofs.OperandRuns.{operand_run, operand_fits, At, at_start, at_end, at_refused, at_more}
-use borrow.Author.Rules.{rules}
+use Rattle.phrases.proofs.OperandRuns.{operand_fits, at_end, at_refused, at_more}
 use Rattle.phrases.proofs.operands.Goals as goal
 
 pub returns-in-Refused : goal.returns-in-Refused

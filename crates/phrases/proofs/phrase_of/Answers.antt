@@ -1,6 +1,5 @@
 -- The shape of the kind picks the reader of the operands.
 use Rattle.phrases.specs.Shapes.{shaped_row}
-use borrow.Author.Rules.{rules}
 use Rattle.phrases.proofs.phrase_of.Goals as goal
 
 pub returns-in-Nothing : goal.returns-in-Nothing

@@ -3,7 +3,6 @@ use Rattle.language.specs.Numbers.{then, record_at}
 use Rattle.records.specs.Reading.{phrase_row}
 use Rattle.records.proofs.References.{gotten_got, gotten_no}
 use Rattle.phrases.proofs.PhraseKinds.{row_shaped, row_none}
-use borrow.Author.Rules.{rules}
 use Rattle.phrases.proofs.phrase_row.Goals as goal
 
 pub returns-then-kind-le-DMATCH : goal.returns-then-kind-le-DMATCH

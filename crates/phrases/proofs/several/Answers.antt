@@ -5,7 +5,6 @@ use Rattle.numbers.proofs.Bounds.{from_got}
 use Rattle.records.specs.Reading.{several_row}
 use Rattle.records.proofs.References.{gotten_got, gotten_no}
 use Rattle.phrases.proofs.OperandRuns.{several_read}
-use borrow.Author.Rules.{rules}
 use Rattle.phrases.proofs.several.Goals as goal
 
 pub put-requires : goal.put-requires

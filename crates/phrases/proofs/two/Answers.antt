@@ -4,7 +4,6 @@ use Rattle.records.specs.Rows.{phrase_cells}
 use Rattle.records.specs.Reading.{pair_row}
 use Rattle.records.proofs.References.{gotten_got, gotten_no}
 use Rattle.phrases.proofs.OperandRuns.{operand_fits}
-use borrow.Author.Rules.{rules}
 use Rattle.phrases.proofs.two.Goals as goal
 
 pub put-requires-in-Got-operand : goal.put-requires-in-Got-operand

@@ -1,7 +1,6 @@
 -- The words and names so far are those that naming gives, and the answer from the start is the answer from here.
-use Prim.Native.Nat.{◌-◌}
-use Rattle.records.proofs.References.{gotten_got, gotten_no, narrow_got}
-use Rattle.reader.proofs.Naming.{At, at_start, at_names, at_room, at_put, at_end, at_refused, at_more}
+use Rattle.records.proofs.References.{gotten_got, gotten_no}
+use Rattle.reader.proofs.Naming.{at_start, at_put, at_end, at_refused, at_more}
 use Rattle.reader.proofs.read_propositions.Goals as goal
 
 pub loop-i-init : goal.loop-i-init

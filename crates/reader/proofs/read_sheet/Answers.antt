@@ -1,5 +1,5 @@
 -- Where the propositions are refused nothing more is read; else the patterns are read over them.
-use Rattle.reader.proofs.Stages.{names_fit, whole_refused, whole_read}
+use Rattle.reader.proofs.Stages.{whole_refused, whole_read}
 use Rattle.reader.proofs.read_sheet.Goals as goal
 
 pub returns-in-Refused : goal.returns-in-Refused

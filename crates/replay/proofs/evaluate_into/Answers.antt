@@ -1,11 +1,8 @@
 -- `replay::evaluate_into` is safe: an accepted certificate is no longer than the output.
-use Prim.Native.Nat.{ℕ}
 use mathlib.Core.Path.{sym}
 use native.Mathlib.Omega.{arith}
-use lib.ListN.{length-replicate}
 use lib.Seq.{length-take-le}
 use Rattle.evaluator.proofs.Fitting.{accepted_fits}
-use Rattle.replay.proofs.Prefixes.{taken_few}
 use Rattle.replay.proofs.evaluate_into.Goals as goal
 
 pub slice_bounds-accepted-end : goal.slice_bounds-accepted-end

@@ -1,7 +1,6 @@
 -- `requests::byte` meets its contract: at each return the tests that led there pick the case of the definition.
 use Rattle.requests.specs.Fields.{pick, byte_of}
 use borrow.Author.Tests.{lt-ltb, le-ltb}
-use borrow.Author.Rules.{rules}
 use Rattle.requests.proofs.byte.Goals as goal
 
 pub returns-then-l-lt16 : goal.returns-then-l-lt16

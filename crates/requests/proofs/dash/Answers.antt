@@ -1,7 +1,6 @@
 -- `requests::dash` meets its contract: at each return the tests that led there pick the case of the definition.
 use Rattle.requests.specs.Fields.{told}
 use borrow.Author.Tests.{eq-eqb, ne_eqb}
-use borrow.Author.Rules.{rules}
 use Rattle.requests.proofs.dash.Goals as goal
 
 pub returns-then-character-eq-DASH : goal.returns-then-character-eq-DASH

@@ -1,7 +1,6 @@
 -- `requests::digit` meets its contract: at each return the tests that led there pick the case of the definition.
 use Rattle.requests.specs.Fields.{pick, nibble}
 use borrow.Author.Tests.{le-leb, lt-leb}
-use borrow.Author.Rules.{rules}
 use Rattle.requests.proofs.digit.Goals as goal
 
 pub returns-then-c-le-NINE : goal.returns-then-c-le-NINE

@@ -1,10 +1,7 @@
 -- `requests::digits` meets its contract: at each turn the answer from the start is the answer from here.
-use native.Mathlib.Omega.{arith}
 use mathlib.Core.Path.{ap, ◌∙◌}
-use Prim.Native.Nat.{◌-◌}
-use borrow.Author.Rules.{rules}
 use Rattle.requests.specs.Fields.{nibble}
-use Rattle.requests.proofs.Counting.{At, at_start, at_no_digit, at_large, at_digit, at_end}
+use Rattle.requests.proofs.Counting.{at_no_digit, at_large, at_digit, at_end}
 use Rattle.requests.proofs.digits.Goals as goal
 
 pub returns-then-d-gt9 : goal.returns-then-d-gt9

@@ -1,9 +1,6 @@
 -- `requests::field_end` meets its contract: at each turn no blank stood before, so the search from the start is the search from here.
-use Prim.Native.Nat.{◌-◌}
-use borrow.Author.Rules.{rules}
-use lib.ListN.{length}
 use mathlib.Core.Path.{sym, ◌∙◌}
-use Rattle.requests.proofs.Spans.{Passed, passed_none, passed_blank, passed_more, passed_all}
+use Rattle.requests.proofs.Spans.{passed_blank, passed_more, passed_all}
 use Rattle.requests.proofs.field_end.Goals as goal
 
 pub returns-then-wide-eq-BLANK : goal.returns-then-wide-eq-BLANK

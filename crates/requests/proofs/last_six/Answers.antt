@@ -1,7 +1,6 @@
 -- `requests::last_six` meets its contract: at each return the tests that led there pick the case of the definition.
 use Rattle.requests.specs.Fields.{pick, letter}
 use borrow.Author.Tests.{le-leb, lt-leb}
-use borrow.Author.Rules.{rules}
 use Rattle.requests.proofs.last_six.Goals as goal
 
 pub returns-then-c-le-LETTER_F : goal.returns-then-c-le-LETTER_F

@@ -1,6 +1,5 @@
 -- `requests::pair` meets its contract, by what its callees ensure.
 use Rattle.requests.specs.Fields.{pair_at}
-use borrow.Author.Rules.{rules}
 use Rattle.requests.proofs.pair.Goals as goal
 
 pub returns : goal.returns

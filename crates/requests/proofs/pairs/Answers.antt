@@ -1,7 +1,5 @@
 -- `requests::pairs` meets its contract: at each turn the answer from the start is the answer from here, and what was read stands at the front of out.
-use Prim.Native.Nat.{◌-◌}
-use borrow.Author.Rules.{rules}
-use Rattle.requests.proofs.Decoding.{At, at_start, at_no_digit, at_full, at_byte, at_end}
+use Rattle.requests.proofs.Decoding.{at_no_digit, at_full, at_byte, at_end}
 use Rattle.requests.proofs.pairs.Goals as goal
 
 pub returns-then-b-ge256 : goal.returns-then-b-ge256

@@ -1,7 +1,6 @@
 -- `requests::read_decimal` meets its contract: a field of some digits, or none.
 use mathlib.Core.Path.{sym, ◌∙◌}
 use Rattle.requests.proofs.Counting.{decimal_some, decimal_none}
-use borrow.Author.Rules.{rules}
 use Rattle.requests.proofs.read_decimal.Goals as goal
 
 pub returns-then-from-to : goal.returns-then-from-to

@@ -1,5 +1,4 @@
 -- `requests::read_hex` meets its contract: at each return the tests that led there say which case of the definition holds.
-use borrow.Author.Rules.{rules}
 use Rattle.requests.proofs.Decoding.{no_field, field_dash, field_odd, field_pairs}
 use Rattle.requests.proofs.read_hex.Goals as goal
 

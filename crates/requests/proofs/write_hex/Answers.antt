@@ -1,9 +1,5 @@
 -- `requests::write_hex` meets its contract: at each turn what is written stands at the front of out.
-use native.Mathlib.Omega.{arith}
-use Prim.Native.Nat.{ℕ, ◌+◌, ◌-◌}
-use lib.ListN.{length}
-use borrow.Author.Rules.{rules, Below-set}
-use Rattle.requests.proofs.Hexed.{At, at_start, at_byte, at_end}
+use Rattle.requests.proofs.Hexed.{at_start, at_byte}
 use Rattle.requests.proofs.write_hex.Goals as goal
 
 pub loop-i-init : goal.loop-i-init

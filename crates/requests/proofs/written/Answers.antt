@@ -3,7 +3,6 @@ use native.Mathlib.Omega.{arith}
 use Rattle.requests.specs.Fields.{pick}
 use Rattle.requests.specs.Writing.{digit_of}
 use borrow.Author.Tests.{lt-ltb, le-ltb}
-use borrow.Author.Rules.{rules}
 use Rattle.requests.proofs.written.Goals as goal
 
 pub returns-then-v-lt10 : goal.returns-then-v-lt10

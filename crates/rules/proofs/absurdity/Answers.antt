@@ -2,7 +2,6 @@
 use mathlib.Core.Path.{refl}
 use Rattle.rules.specs.Shapes.{absurdity}
 use Rattle.rules.proofs.Tests.{pass, stop}
-use borrow.Author.Rules.{rules}
 use Rattle.rules.proofs.absurdity.Goals as goal
 
 pub returns-then-x-left : goal.returns-then-x-left

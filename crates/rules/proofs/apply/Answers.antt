@@ -1,7 +1,6 @@
 -- Each way through the code is one of the five ways of a ruling.
 use mathlib.Core.Path.{sym, ◌∙◌}
 use Rattle.rules.proofs.Applies.{safe, new_fits, ruling_unfit, ruling_known, ruling_known_missing, ruling_new, ruling_new_missing}
-use borrow.Author.Rules.{rules}
 use Rattle.rules.proofs.apply.Goals as goal
 
 pub conclude-requires : goal.conclude-requires

@@ -2,7 +2,6 @@
 use mathlib.Core.Path.{refl}
 use Rattle.rules.specs.Shapes.{dilemma}
 use Rattle.rules.proofs.Tests.{pass, stop}
-use borrow.Author.Rules.{rules}
 use Rattle.rules.proofs.dilemma.Goals as goal
 
 pub returns-then-left : goal.returns-then-left

@@ -3,7 +3,6 @@ use mathlib.Core.Path.{refl, ap}
 use Rattle.rules.specs.declared.Shape.TheVariants.{Known}
 use Rattle.rules.specs.Shapes.{dilemma_end}
 use Rattle.rules.proofs.Tests.{pass, stop}
-use borrow.Author.Rules.{rules}
 use Rattle.rules.proofs.dilemma_end.Goals as goal
 
 pub returns-then-right : goal.returns-then-right

@@ -3,7 +3,6 @@ use mathlib.Core.Path.{refl, ap, ◌∙◌}
 use Rattle.rules.specs.declared.Shape.TheVariants.{Known}
 use Rattle.rules.specs.Shapes.{kind_at, left_at, double_negation}
 use Rattle.rules.proofs.Tests.{pass, stop}
-use borrow.Author.Rules.{rules}
 use Rattle.rules.proofs.double_negation.Goals as goal
 
 pub returns-then-kind-eq-NOT-2 : goal.returns-then-kind-eq-NOT-2

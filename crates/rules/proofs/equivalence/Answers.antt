@@ -1,9 +1,7 @@
 -- At each return the tests on the way say which case of the rule holds.
-use mathlib.Core.Path.{refl, sym, ◌∙◌}
-use native.Mathlib.Omega.{arith}
+use mathlib.Core.Path.{refl}
 use Rattle.rules.specs.Shapes.{equivalence}
 use Rattle.rules.proofs.Tests.{pass, stop}
-use borrow.Author.Rules.{rules}
 use Rattle.rules.proofs.equivalence.Goals as goal
 
 pub returns-then-kind-eq-IF-2 : goal.returns-then-kind-eq-IF-2

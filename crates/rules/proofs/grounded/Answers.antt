@@ -2,7 +2,6 @@
 use mathlib.Core.Path.{sym, ◌∙◌}
 use Rattle.rules.specs.Base.{grounds}
 use Rattle.rules.proofs.Tests.{and_on, and_off}
-use borrow.Author.Rules.{rules}
 use Rattle.rules.proofs.grounded.Goals as goal
 
 pub returns-then-met-2 : goal.returns-then-met-2

@@ -3,7 +3,6 @@ use mathlib.Core.Path.{refl, ap}
 use Rattle.rules.specs.declared.Shape.TheVariants.{Known}
 use Rattle.rules.specs.Shapes.{left_part}
 use Rattle.rules.proofs.Tests.{pass, stop}
-use borrow.Author.Rules.{rules}
 use Rattle.rules.proofs.left_part.Goals as goal
 
 pub returns-then-kind-eq-AND : goal.returns-then-kind-eq-AND

@@ -1,9 +1,6 @@
 -- What is left of the stack has the number where the whole stack has it.
-use Prim.Native.Nat.{◌≤◌}
-use mathlib.Core.Path.{◌≡◌, sym, ◌∙◌}
+use mathlib.Core.Path.{sym, ◌∙◌}
 use native.Mathlib.Omega.{arith}
-use borrow.Author.Rules.{rules}
-use Rattle.rules.specs.Base.{within}
 use Rattle.rules.proofs.Stacks.{within_hit, within_miss, within_none}
 use Rattle.rules.proofs.member.Goals as goal
 

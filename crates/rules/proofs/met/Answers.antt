@@ -1,7 +1,6 @@
 -- A premise is looked for where it is asked.
 use mathlib.Core.Path.{◌∙◌}
 use Rattle.rules.proofs.Stacks.{not_asked, is_asked}
-use borrow.Author.Rules.{rules}
 use Rattle.rules.proofs.met.Goals as goal
 
 pub returns-then-ask-eq0 : goal.returns-then-ask-eq0

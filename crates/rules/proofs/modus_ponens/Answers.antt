@@ -3,7 +3,6 @@ use mathlib.Core.Path.{refl, ap}
 use Rattle.rules.specs.declared.Shape.TheVariants.{Known}
 use Rattle.rules.specs.Shapes.{modus_ponens}
 use Rattle.rules.proofs.Tests.{pass, stop}
-use borrow.Author.Rules.{rules}
 use Rattle.rules.proofs.modus_ponens.Goals as goal
 
 pub returns-then-left-y : goal.returns-then-left-y

@@ -5,7 +5,6 @@ use Rattle.forms.specs.Word.{word}
 use Rattle.rules.specs.declared.Shape.TheVariants.{New}
 use Rattle.rules.specs.Shapes.{modus_tollens}
 use Rattle.rules.proofs.Tests.{pass, stop}
-use borrow.Author.Rules.{rules}
 use Rattle.rules.proofs.modus_tollens.Goals as goal
 
 pub returns-then-right-left : goal.returns-then-right-left

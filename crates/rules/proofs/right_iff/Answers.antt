@@ -1,11 +1,9 @@
 -- At each return the tests on the way say which case of the rule holds.
-use mathlib.Core.Path.{refl, sym, ap, ap₂, ◌∙◌}
-use native.Mathlib.Omega.{arith}
+use mathlib.Core.Path.{refl, ap, ap₂, ◌∙◌}
 use Rattle.forms.specs.Word.{word}
 use Rattle.rules.specs.declared.Shape.TheVariants.{New}
 use Rattle.rules.specs.Shapes.{right_iff}
 use Rattle.rules.proofs.Tests.{pass, stop}
-use borrow.Author.Rules.{rules}
 use Rattle.rules.proofs.right_iff.Goals as goal
 
 pub returns-then-kind-eq-IFF : goal.returns-then-kind-eq-IFF

@@ -1,7 +1,5 @@
 -- `first_at` meets its contract: the search goes on from where it stands.
-use Prim.Native.Nat.{◌-◌}
-use lib.ListN.{length}
-use Rattle.wording.proofs.Finding.{Passed, passed_none, passed_found, passed_more, passed_all}
+use Rattle.wording.proofs.Finding.{passed_found, passed_more, passed_all}
 use Rattle.wording.proofs.first_at.Goals as goal
 
 pub returns-then-at-w : goal.returns-then-at-w

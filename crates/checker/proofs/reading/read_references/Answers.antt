@@ -1,8 +1,7 @@
 -- One reference after another: what is left to read is what the definition has left.
-use Prim.Native.Nat.{◌-◌}
 use mathlib.Core.Path.{sym, ap, ◌∙◌}
 use Rattle.numbers.specs.Gotten.{gotten}
-use Rattle.checker.proofs.Tallies.{Referring, referring_none, referring_more, referring_refused, referring_all}
+use Rattle.checker.proofs.Tallies.{referring_more, referring_refused, referring_all}
 use Rattle.checker.proofs.reading.read_references.Goals as goal
 
 pub returns-in-Refused : goal.returns-in-Refused

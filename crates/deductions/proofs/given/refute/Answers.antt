@@ -1,7 +1,6 @@
 -- Where the proof concluded false: p⇒false, ¬false and ¬p are formed, and the tokens written.
 use native.Mathlib.Omega.{arith}
 use Rattle.forms.proofs.Interning.{sized}
-use Rattle.deductions.proofs.Leaves.{refuted_false, refuted_other}
 use Rattle.deductions.proofs.given.refute.Goals as goal
 
 pub negation-absurd-requires : goal.negation-absurd-requires

@@ -2,7 +2,6 @@
 use native.Mathlib.Omega.{arith}
 use Rattle.deductions.proofs.Sorts.{otherwise}
 use Rattle.deductions.proofs.Leaves.{taken_none, taken_more, taken_other, long_first, long_next}
-use Prim.Native.Nat.{ℕ, ◌<◌}
 use Rattle.deductions.proofs.inference.+gather.Goals as goal
 
 pub returns-then-n-eq0 : goal.returns-then-n-eq0

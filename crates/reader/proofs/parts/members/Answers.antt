@@ -1,9 +1,6 @@
 -- The numbers from the start are those stored, and the rest from here.
-use Prim.Native.Nat.{◌-◌}
-use lib.ListN.{take}
-use Rattle.records.specs.Reading.{name_ref}
-use Rattle.records.proofs.References.{gotten_got, gotten_no, narrow_got}
-use Rattle.reader.proofs.Filling.{In, in_start, in_end, in_refused, in_more}
+use Rattle.records.proofs.References.{gotten_got, gotten_no}
+use Rattle.reader.proofs.Filling.{in_end, in_refused, in_more}
 use Rattle.reader.proofs.parts.members.Goals as goal
 
 pub returns-in-Refused : goal.returns-in-Refused

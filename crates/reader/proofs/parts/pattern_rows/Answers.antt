@@ -1,8 +1,5 @@
 -- The rows from the start are those laid, and the rest from here.
-use Prim.Native.Nat.{◌-◌}
-use lib.ListN.{take}
-use Rattle.records.specs.Reading.{pattern_row}
-use Rattle.reader.proofs.Filling.{At, at_start, at_end, at_refused, at_more}
+use Rattle.reader.proofs.Filling.{at_start, at_end, at_refused, at_more}
 use borrow.Author.Rules.{rules}
 use Rattle.reader.proofs.parts.pattern_rows.Goals as goal
 

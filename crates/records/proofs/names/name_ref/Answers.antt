@@ -1,7 +1,6 @@
 -- A refusal is handed on; a reference is looked up among the names.
 use mathlib.Core.Path.{sym}
 use Rattle.records.proofs.References.{gotten_got, gotten_no, name_read, name_refused}
-use borrow.Author.Rules.{rules}
 use Rattle.records.proofs.names.name_ref.Goals as goal
 
 pub returns-in-Refused : goal.returns-in-Refused

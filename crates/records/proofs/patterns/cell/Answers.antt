@@ -1,7 +1,6 @@
 -- A row's number stands in the buffer past the rows before it.
 use mathlib.Core.Path.{◌∙◌, sym}
 use Rattle.records.proofs.Tables.{cell_at}
-use borrow.Author.Rules.{rules}
 use Rattle.records.proofs.patterns.cell.Goals as goal
 
 pub returns : goal.returns

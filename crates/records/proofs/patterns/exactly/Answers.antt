@@ -1,9 +1,7 @@
 -- A refusal is handed on; the proposition's number is the left operand.
-use native.Mathlib.Omega.{arith}
 use Rattle.language.specs.Numbers.{then}
 use Rattle.records.specs.Operands.{exactly_row}
-use Rattle.records.proofs.References.{gotten_got, gotten_no, narrow_got}
-use borrow.Author.Rules.{rules}
+use Rattle.records.proofs.References.{gotten_got, gotten_no}
 use Rattle.records.proofs.patterns.exactly.Goals as goal
 
 pub returns-in-Refused : goal.returns-in-Refused

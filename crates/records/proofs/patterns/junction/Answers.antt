@@ -5,7 +5,6 @@ use Rattle.numbers.proofs.Bounds.{below_got}
 use Rattle.records.specs.Operands.{junction_row}
 use Rattle.records.proofs.References.{gotten_got, gotten_no}
 use Rattle.records.proofs.Tables.{rows_long}
-use borrow.Author.Rules.{rules}
 use Rattle.records.proofs.patterns.junction.Goals as goal
 
 pub cell-requires : goal.cell-requires

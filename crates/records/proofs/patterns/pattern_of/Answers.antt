@@ -3,7 +3,6 @@ use mathlib.Core.Path.{sym}
 use Rattle.records.specs.Reading.{pattern_row_kinds}
 use Rattle.records.specs.Operands.{exactly_row, negation_row}
 use Rattle.records.proofs.ByKind.{pattern_junction, pattern_none}
-use borrow.Author.Rules.{rules}
 use Rattle.records.proofs.patterns.pattern_of.Goals as goal
 
 pub returns-then-k-eq-ANY : goal.returns-then-k-eq-ANY

@@ -2,7 +2,6 @@
 use Rattle.language.specs.Numbers.{then, record_at}
 use Rattle.records.specs.Reading.{pattern_row}
 use Rattle.records.proofs.References.{gotten_got, gotten_no}
-use borrow.Author.Rules.{rules}
 use Rattle.records.proofs.patterns.pattern_row.Goals as goal
 
 pub returns-in-Refused : goal.returns-in-Refused

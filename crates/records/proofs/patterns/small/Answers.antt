@@ -2,7 +2,6 @@
 use borrow.Author.Tests.{lt-leb, le-leb}
 use Rattle.language.specs.Numbers.{check}
 use Rattle.records.specs.Reading.{small_row}
-use borrow.Author.Rules.{rules}
 use Rattle.records.proofs.patterns.small.Goals as goal
 
 pub returns-then-p-gt4 : goal.returns-then-p-gt4

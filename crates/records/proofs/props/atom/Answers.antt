@@ -4,7 +4,6 @@ use Rattle.language.specs.Numbers.{then}
 use Rattle.numbers.proofs.Bounds.{from_got}
 use Rattle.records.specs.Operands.{atom_word}
 use Rattle.records.proofs.References.{gotten_got, gotten_no}
-use borrow.Author.Rules.{rules}
 use Rattle.records.proofs.props.atom.Goals as goal
 
 pub word-requires : goal.word-requires

@@ -2,7 +2,6 @@
 use Rattle.language.specs.Numbers.{then}
 use Rattle.records.specs.Operands.{junction_word}
 use Rattle.records.proofs.References.{gotten_got, gotten_no, name_low}
-use borrow.Author.Rules.{rules}
 use Rattle.records.proofs.props.junction.Goals as goal
 
 pub word-requires : goal.word-requires

@@ -3,7 +3,6 @@ use native.Mathlib.Omega.{arith}
 use Rattle.language.specs.Numbers.{then}
 use Rattle.records.specs.Operands.{negation_word}
 use Rattle.records.proofs.References.{gotten_got, gotten_no, name_low}
-use borrow.Author.Rules.{rules}
 use Rattle.records.proofs.props.negation.Goals as goal
 
 pub word-requires : goal.word-requires

@@ -2,7 +2,6 @@
 use Rattle.language.specs.Numbers.{then, record_at}
 use Rattle.records.specs.Reading.{word_at}
 use Rattle.records.proofs.References.{gotten_got, gotten_no}
-use borrow.Author.Rules.{rules}
 use Rattle.records.proofs.props.word_at.Goals as goal
 
 pub returns-in-Refused : goal.returns-in-Refused

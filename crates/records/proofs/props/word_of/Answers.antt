@@ -4,7 +4,6 @@ use native.Mathlib.Omega.{arith}
 use Rattle.records.specs.Reading.{word_kinds}
 use Rattle.records.specs.Operands.{atom_word, negation_word}
 use Rattle.records.proofs.ByKind.{word_plain, word_junction, word_none}
-use borrow.Author.Rules.{rules}
 use Rattle.records.proofs.props.word_of.Goals as goal
 
 pub returns-then-k-eq-ATOM : goal.returns-then-k-eq-ATOM

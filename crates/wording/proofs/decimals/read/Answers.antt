@@ -1,8 +1,6 @@
 -- `decimals::read` meets its contract: at each turn the answer from the start is the answer from here, and so is what is written.
-use Prim.Native.Nat.{◌-◌}
 use mathlib.Core.Path.{refl}
-use lib.ListN.{length}
-use Rattle.wording.proofs.Decoding.{At, at_start, at_more, at_end}
+use Rattle.wording.proofs.Decoding.{at_more, at_end}
 use Rattle.wording.proofs.decimals.read.Goals as goal
 
 pub loop-i-preserved : goal.loop-i-preserved

@@ -1,7 +1,5 @@
 -- `page::bytes` meets its contract: at each turn what is to be written from the start is what is to be written from here.
-use Prim.Native.Nat.{◌-◌}
-use lib.ListN.{length}
-use Rattle.wording.proofs.Listing.{At, at_start, at_none, at_more, at_end}
+use Rattle.wording.proofs.Listing.{at_none, at_more, at_end}
 use Rattle.wording.proofs.page.bytes.Goals as goal
 
 pub returns-then-left-eq0 : goal.returns-then-left-eq0

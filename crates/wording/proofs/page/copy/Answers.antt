@@ -1,8 +1,6 @@
 -- `page::copy` meets its contract: at each turn what is to be written from the start is what is to be written from here.
-use Prim.Native.Nat.{◌-◌}
 use mathlib.Core.Path.{refl}
-use lib.ListN.{length}
-use Rattle.wording.proofs.Copying.{At, at_start, at_more, at_end}
+use Rattle.wording.proofs.Copying.{at_more, at_end}
 use Rattle.wording.proofs.page.copy.Goals as goal
 
 pub loop-i-preserved : goal.loop-i-preserved

@@ -1,8 +1,6 @@
 -- `page::skip` meets its contract: at each turn what stands past the bars from the start is what stands past those left from here.
-use Prim.Native.Nat.{◌-◌}
 use mathlib.Core.Path.{refl}
-use lib.ListN.{length}
-use Rattle.wording.proofs.Pieces.{Passing, pass_start, pass_none, pass_more, pass_end}
+use Rattle.wording.proofs.Pieces.{pass_none, pass_more, pass_end}
 use Rattle.wording.proofs.page.skip.Goals as goal
 
 pub returns-then-left-eq0 : goal.returns-then-left-eq0

@@ -1,7 +1,5 @@
 -- `page::up_to` meets its contract: at each turn what is to be written from the start is what is to be written from here.
-use Prim.Native.Nat.{◌-◌}
-use lib.ListN.{length}
-use Rattle.wording.proofs.Pieces.{At, at_start, at_bar, at_more, at_end}
+use Rattle.wording.proofs.Pieces.{at_bar, at_more, at_end}
 use Rattle.wording.proofs.page.up_to.Goals as goal
 
 pub returns-then-text-i-eq124 : goal.returns-then-text-i-eq124

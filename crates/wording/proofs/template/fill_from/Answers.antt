@@ -1,7 +1,5 @@
 -- `template::fill_from` meets its contract: at each turn what is to be written from the start is what is to be written from here.
-use Prim.Native.Nat.{◌-◌}
-use lib.ListN.{length}
-use Rattle.wording.proofs.Filling.{At, at_start, at_bar, at_more, at_end}
+use Rattle.wording.proofs.Filling.{at_bar, at_more, at_end}
 use Rattle.wording.proofs.template.fill_from.Goals as goal
 
 pub returns-then-text-i-eq124 : goal.returns-then-text-i-eq124

@@ -1,17 +1,16 @@
 -- Remaining nesting falls: a phrase's parts run with one less, and a list of arguments or steps with one less of them. At each return the callees'
 -- answers and the tests give the language's answer, by one law of Entering, Lets, Supposing, Announcing, Calling, Rules or Matching.
 use native.Mathlib.Omega.{arith}
-use mathlib.Core.Path.{◌∙◌, refl, sym}
-use Rattle.deductions.proofs.Entering.{row_small, spent_out, too_deep, entered, ready_spent, last_kind}
-use Rattle.deductions.proofs.Announcing.{by_ready, by_expression, by_fails, by_refused, by_is, ready_expression, either_expression}
-use Prim.Native.Nat.{ℕ, ◌+◌, ◌*◌, ◌<◌}
+use mathlib.Core.Path.{refl}
+use Rattle.deductions.proofs.Entering.{spent_out, too_deep, entered, last_kind}
+use Rattle.deductions.proofs.Announcing.{by_ready, by_expression, by_fails, by_refused, by_is, ready_expression}
 use Rattle.deductions.proofs.Calling.{prop_applied, constructor_applied, function_applied, method_small, method_ready, method_applied, method_miscounted, args_none, argument_ready, argument_fails, argument_fits, arguments_ready, arguments_fail, argument_then, join_after, call_row, call_refused, callable, call_is, call_list, called_fails, applicable, called_is}
 use mathlib.Core.List.{[], ◌∷◌}
 use Rattle.deductions.proofs.Sorts.{otherwise}
-use Rattle.deductions.proofs.Supposing.{assume_runs, hyp_row, hyp_refused, hyp_other, hyp_ready, hyp_fails, hyp_still, imply_asks, assume_is, suppose_runs, hyp_one, refute_asks, suppose_is, under_ready, under_fits, under_is}
-use Rattle.deductions.proofs.Lets.{ready_less, held, join_fits, let_first, let_refused, let_is, let_ready, let_value_fits, block_is, block_ready, either_value, either_refused, either_lemma, either_fails, ready_one, sequel_fits, step_in, step_ready, step_kind, last_ready, last_step, step_fails, step_then, steps_ready}
+use Rattle.deductions.proofs.Supposing.{assume_runs, hyp_row, hyp_refused, hyp_other, hyp_ready, hyp_fails, hyp_still, imply_asks, assume_is, suppose_runs, hyp_one, refute_asks, suppose_is, under_ready, under_is}
+use Rattle.deductions.proofs.Lets.{ready_less, held, join_fits, let_first, let_refused, let_is, let_ready, let_value_fits, block_is, block_ready, either_value, either_refused, either_lemma, either_fails, sequel_fits, step_in, step_ready, step_kind, last_ready, last_step, step_fails, step_then, steps_ready}
 use Rattle.deductions.proofs.Matching.{clauses_offered, none_fits, parts_bindable, parts_fit, clause_ready, clause_runs, match_first, match_refused, match_other, matching, match_is}
-use Rattle.deductions.proofs.+announced_bind_block_steps_apply_arguments_call_called_deduce_clause_matched_either_assume_suppose_under_step.Goals as goal
+use Rattle.deductions.proofs.+deduction.Goals as goal
 
 pub block::announced-deduce-requires : goal.block::announced-deduce-requires
 block::announced-deduce-requires t c =

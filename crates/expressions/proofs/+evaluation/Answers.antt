@@ -2,12 +2,10 @@
 -- answers and the tests give the language's answer, by one law of Steps, Calls, Operators or Matches.
 use native.Mathlib.Omega.{arith}
 use Rattle.expressions.proofs.Operators.{function_small, function_ready, function_called, function_miscounted, prop_called, rule_called, method_called}
-use Prim.Native.Nat.{ℕ, ◌+◌, ◌*◌, ◌<◌}
-use mathlib.Core.Path.{◌∙◌, sym}
 use Rattle.expressions.proofs.Calls.{none_left, argument_ready, arg_got, arg_fits, arg_push, argument_more, argument_refused, operator_is, call_list, call_apply, call_is, arguments_refused, operator_refused}
-use Rattle.expressions.proofs.Steps.{ready_at, ready_small, ready_push, push_fits, got, let_first, let_second, let_is, let_refused, spent_out, too_deep, entered, ready_spent}
+use Rattle.expressions.proofs.Steps.{ready_at, ready_push, push_fits, got, let_first, let_second, let_is, let_refused, spent_out, too_deep, entered}
 use Rattle.expressions.proofs.Matches.{clauses_offered, parts_bindable, clause_ready, clause_runs, none_fits, subject_is, subject_refused, subject_other, other_kind, matching, match_is}
-use Rattle.expressions.proofs.+apply_arguments_bind_call_clause_evaluate_matched.Goals as goal
+use Rattle.expressions.proofs.+evaluation.Goals as goal
 
 pub apply-overflow_mul-phrase : goal.apply-overflow_mul-phrase
 apply-overflow_mul-phrase t c =

@@ -1,7 +1,7 @@
 -- Remaining nesting falls: a phrase's parts run with one less, and a list of arguments or steps with one less of them. At each return the callees'
 -- answers and the tests give the language's answer, by one law of Entering, Lets, Supposing, Announcing, Calling, Rules or Matching.
 use Prim.Native.Nat.{◌+◌, ◌*◌}
-use Rattle.deductions.proofs.+announced_bind_block_steps_apply_arguments_call_called_deduce_clause_matched_either_assume_suppose_under_step.Given as goal
+use Rattle.deductions.proofs.+deduction.Given as goal
 
 abbrev pub decreases-block::announced : goal.decreases-block::announced
 decreases-block::announced l = 32 * l.site.depth + 1

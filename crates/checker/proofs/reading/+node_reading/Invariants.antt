@@ -1,6 +1,6 @@
 -- At each return the tests and readings on the way leave one case of the definition. Nesting left is what falls.
 use Prim.Native.Nat.{◌+◌, ◌*◌}
-use Rattle.checker.proofs.reading.+read_node_read_rest_read_two_read_under.Given as goal
+use Rattle.checker.proofs.reading.+node_reading.Given as goal
 
 abbrev pub decreases-read_node : goal.decreases-read_node
 decreases-read_node l = 3 * l.d

@@ -1,34 +1,14 @@
 -- At each return the tests and readings on the way leave one case of the definition. Nesting left is what falls.
-use Prim.Native.Nat.{◌+◌, ◌*◌}
 use mathlib.Core.Path.{◌≡◌, sym, ap, ◌∙◌}
 use mathlib.Core.Logic.{⊎_elim}
 use native.Mathlib.Omega.{arith}
 use borrow.Author.Rules.{rules}
-use borrow.Author.Tests.{ltb-true, ltb-false}
+use borrow.Author.Tests.{ltb-true}
 use Rattle.numbers.specs.Gotten.{gotten}
 use Rattle.numbers.proofs.Bounds.{from_got}
 use Rattle.checker.proofs.Tallies.{kind_refused, rest_tallied, no_nesting, no_nodes, rest_rule, rest_two, rest_under}
 use Rattle.checker.proofs.Tallies.{first_refused, second_refused, two_tallied, rules_few, hypothesis_refused, under_tallied}
-use Prim.Native.Nat.{ℕ, ◌<◌}
-use borrow.Fn.Kinds.{In}
-use borrow.Fn.PlainCycle.{Measures, is, falls, and}
-use Rattle.checker.proofs.reading.read_node.Reads as read-node
-use Rattle.checker.proofs.reading.read_node.Kinds as read-node-kinds
-use Rattle.checker.proofs.reading.+read_node_read_rest_read_two_read_under.Lts-read_node as read-node-lts
-use Rattle.checker.proofs.reading.read_rest.Reads as read-rest
-use Rattle.checker.proofs.reading.read_rest.Kinds as read-rest-kinds
-use Rattle.checker.proofs.reading.+read_node_read_rest_read_two_read_under.Lts-read_rest as read-rest-lts
-use Rattle.checker.proofs.reading.read_two.Reads as read-two
-use Rattle.checker.proofs.reading.read_two.Kinds as read-two-kinds
-use Rattle.checker.proofs.reading.+read_node_read_rest_read_two_read_under.Lts-read_two as read-two-lts
-use Rattle.checker.proofs.reading.read_under.Reads as read_under
-use Rattle.checker.proofs.reading.read_under.Kinds as read-under-kinds
-use Rattle.checker.proofs.reading.+read_node_read_rest_read_two_read_under.Lts-read_under as read-under-lts
-use Rattle.checker.proofs.reading.read_rule.Reads as read-rule-reads
-use Rattle.numbers.proofs.read_below.Reads as read-below-reads
-use Rattle.numbers.proofs.read_from.Reads as read-from-reads
-use Rattle.checker.proofs.reading.+read_node_read_rest_read_two_read_under.Tie.{close}
-use Rattle.checker.proofs.reading.+read_node_read_rest_read_two_read_under.Goals as goal
+use Rattle.checker.proofs.reading.+node_reading.Goals as goal
 
 pub read_node-read_rest-requires : goal.read_node-read_rest-requires
 read_node-read_rest-requires t c =

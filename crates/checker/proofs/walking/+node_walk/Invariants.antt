@@ -1,7 +1,7 @@
 -- A node by its kind: each call finds what it asks in what was read, and each return answers what the definition concludes.
 -- Nesting left is what falls: a node opens, then its parts are walked.
 use Prim.Native.Nat.{◌+◌, ◌*◌}
-use Rattle.checker.proofs.walking.+in_turn_under_walk.Given as goal
+use Rattle.checker.proofs.walking.+node_walk.Given as goal
 
 abbrev pub decreases-in_turn : goal.decreases-in_turn
 decreases-in_turn l = 2 * l.d + 1

@@ -1,31 +1,12 @@
 -- A node by its kind: each call finds what it asks in what was read, and each return answers what the definition concludes.
 -- Nesting left is what falls: a node opens, then its parts are walked.
-use Prim.Native.Nat.{◌+◌, ◌*◌}
 use mathlib.Core.Path.{◌≡◌}
 use native.Mathlib.Omega.{arith}
 use borrow.Author.Rules.{rules}
 use Rattle.checker.proofs.Opening.{deep_enough, walk_rule, rule_walked, walk_two, two_walked, walk_under, under_walked}
 use Rattle.checker.proofs.Sequences.{walk_first, two_refused, push_fits, walk_second, two_concluded}
-use Rattle.checker.proofs.Hypotheses.{hypothesis_fits, walk_inside, under_refused, conditional_fits, under_concluded}
-use Prim.Native.Nat.{ℕ, ◌<◌}
-use borrow.Fn.Kinds.{In}
-use borrow.Fn.PlainCycle.{Measures, is, falls, and}
-use Rattle.checker.proofs.walking.in_turn.Reads as in_turn
-use Rattle.checker.proofs.walking.in_turn.Kinds as in-turn-kinds
-use Rattle.checker.proofs.walking.+in_turn_under_walk.Lts-in_turn as in-turn-lts
-use Rattle.checker.proofs.walking.under.Reads as under
-use Rattle.checker.proofs.walking.under.Kinds as under-kinds
-use Rattle.checker.proofs.walking.+in_turn_under_walk.Lts-under as under-lts
-use Rattle.checker.proofs.walking.walk.Reads as walk
-use Rattle.checker.proofs.walking.walk.Kinds as walk-kinds
-use Rattle.checker.proofs.walking.+in_turn_under_walk.Lts-walk as walk-lts
-use Rattle.checker.proofs.walking.named.Reads as named-reads
-use Rattle.checker.proofs.walking.rule_node.Reads as rule-node-reads
-use Rattle.checker.proofs.walking.taken.Reads as taken-reads
-use Rattle.forms.proofs.conditional.Reads as conditional-reads
-use Rattle.words.proofs.put.Reads as put_reads
-use Rattle.checker.proofs.walking.+in_turn_under_walk.Tie.{close}
-use Rattle.checker.proofs.walking.+in_turn_under_walk.Goals as goal
+use Rattle.checker.proofs.Hypotheses.{walk_inside, under_refused, conditional_fits, under_concluded}
+use Rattle.checker.proofs.walking.+node_walk.Goals as goal
 
 pub in_turn-walk-requires : goal.in_turn-walk-requires
 in_turn-walk-requires t c = (omega (arith, c.decreases), walk_first _ _ _ _ _ _ _ _ c.requires)

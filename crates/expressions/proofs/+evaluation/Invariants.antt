@@ -1,7 +1,7 @@
 -- Remaining nesting falls: a phrase's parts run with one less, and a list of arguments with one argument less. At each return the callees'
 -- answers and the tests give the language's answer, by one law of Steps, Calls, Operators or Matches.
 use Prim.Native.Nat.{◌+◌, ◌*◌}
-use Rattle.expressions.proofs.+apply_arguments_bind_call_clause_evaluate_matched.Given as goal
+use Rattle.expressions.proofs.+evaluation.Given as goal
 
 abbrev pub decreases-apply : goal.decreases-apply
 decreases-apply l = 16 * l.depth + 1
