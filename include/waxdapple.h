@@ -36,7 +36,7 @@ extern "C" {
 /* A thread that calls either function must have so many bytes of stack left. The deepest requests, measured, need less (docs/SCRATCH.md). */
 #define WAXDAPPLE_STACK 524288
 
-/* No certificate of an evaluation is longer (`evaluate-room` in docs/THEOREMS.md): an output of that length is never too short. */
+/* No certificate of an evaluation is longer (`evaluate_room` in docs/THEOREMS.md): an output of that length is never too short. */
 #define WAXDAPPLE_CERTIFICATE 47612
 
 /* Evaluates a sheet. Answers 0 where it is accepted: the certificate is in front of out, *place is its length, *work and *inferences are the two
