@@ -3,7 +3,7 @@
 
 usage: python3 tools/respell.py [--show]     at the top of the repository, once, after port.py; --show writes nothing
 
-A name is one that a file of specs/, or a file of lemmas below proofs/, declares with a dash or a capital inside. It is turned wherever it stands
+A name is one that a file of specs/, or a file of lemmas below proofs/, declares with a dash or a capital inside, or that an import gives. It is turned wherever it stands
 as a whole word: in .antt files, in clauses and imports of .rt files (strings aside), in edits; in comments and pages only between backticks. Names of
 src/ have no such letters. Two names that would fall together in one file are told apart by OTHERWISE.
 """
@@ -95,6 +95,21 @@ def turned(text, to, dotted):
     return WORD.sub(one, text)
 
 
+ALIAS = re.compile(r"([^\s,{}]+) as ([A-Za-z][^\s,{};]*[-·][^\s,{};]*)(?=[\s,{};]|$)")
+
+
+def aliases(text):
+    """What a file's imports call otherwise, where that has a dash or a dot in it: a type in camel case, else a word in snake case."""
+    to = {}
+    for line in text.split("\n"):
+        if re.match(r"(?:ghost )?use ", line):
+            for item, name in ALIAS.findall(line):
+                parts = re.split(r"[-·]", name)
+                is_kind = item[0].isupper() and "." not in item and "·" not in name
+                to[name] = camel("-".join(parts)) if is_kind else "_".join(snake(p[:1].lower() + p[1:]) for p in parts)
+    return to
+
+
 def in_backticks(text, to):
     """A page or a comment: prose stays, names between backticks are turned."""
     parts = text.split("`")
@@ -133,7 +148,7 @@ def functions():
 def main():
     to = renamings()
     made = functions()
-    files = [p for p in glob.glob("crates/**/*", recursive=True) if p.endswith((".antt", ".rt", ".edit"))]
+    files = [p for p in glob.glob("crates/**/*", recursive=True) if p.endswith((".antt", ".rt", ".edit")) and "/out/" not in p]
     files += glob.glob("tests/**/*.edit", recursive=True) + glob.glob("tests/mutants/run") + glob.glob("tests/mutants/contracts")
     files += ["README.md"] + glob.glob("docs/*.md") + glob.glob("teaching/*.md") + glob.glob("crates/*.md")
     for path in sorted(set(f for f in files if os.path.isfile(f))):
@@ -146,7 +161,10 @@ def main():
                 print(f"two made one in {path}: {new}", file=sys.stderr)
         own = os.path.basename(path) == "Proof.antt"
         fits = (lambda w: w not in made) if own else (lambda w: True)
-        new = in_file(path, text, to, fits)
+        here = {} if own else aliases(text)
+        for name in set(here.values()) & words:
+            print(f"an alias falls together in {path}: {name}", file=sys.stderr)
+        new = in_file(path, text, {**to, **here}, fits)
         if new != text and "--show" not in sys.argv:
             open(path, "w", encoding="utf-8").write(new)
     if "--show" in sys.argv:

@@ -17,7 +17,7 @@ use Rattle.forms.specs.Table.{tree}
 use Rattle.records.specs.Reading.{Tables, reading}
 use Rattle.reader.specs.declared.Counts.{Counts}
 use Rattle.reader.specs.declared.SheetRead.{SheetRead}
-use Rattle.reader.specs.declared.SheetRead.TheVariants as sheet-read
+use Rattle.reader.specs.declared.SheetRead.TheVariants as sheet_read
 use Rattle.reader.specs.Laid.{Laid}
 use Rattle.reader.specs.Stands.{ReadAs, read, unread}
 use Rattle.reader.proofs.SheetSaying.{reading_sheet}
@@ -54,7 +54,7 @@ module _ (s : List ℕ) (ns₀ fs₀ ps₀ hs₀ bs₀ ns fs ps hs bs : List ℕ
               rw e (omega arith, rw (← st.base) (sym (get_d_tree st.trees T.base j i)));
         }
 
-    pub sheet_ready : (c : Counts) → r ≡ sheet-read.Read c → length ns ≡ length ns₀ → length fs ≡ length fs₀ → length bs ≡ length bs₀ → Begun ns fs bs c.words c.base
+    pub sheet_ready : (c : Counts) → r ≡ sheet_read.Read c → length ns ≡ length ns₀ → length fs ≡ length fs₀ → length bs ≡ length bs₀ → Begun ns fs bs c.words c.base
     sheet_ready c e a b d =
         let O = opened s c (sym L.answered ∙ e) in
         let w = O.words_many in
@@ -70,7 +70,7 @@ module _ (s : List ℕ) (ns₀ fs₀ ps₀ hs₀ bs₀ ns fs ps hs bs : List ℕ
         }
 
     module _ (certificate : List ℕ) where
-      pub sheet_stops : (w p : ℕ) → r ≡ sheet-read.Refused w p → checked_numbers (Falls w p) ≡ verdict_numbers (verdict s certificate)
+      pub sheet_stops : (w p : ℕ) → r ≡ sheet_read.Refused w p → checked_numbers (Falls w p) ≡ verdict_numbers (verdict s certificate)
       unfolding verdict against checked_numbers verdict_numbers
       sheet_stops w p e = go (sheet s) refl (reading_sheet s)
         where
@@ -80,7 +80,7 @@ module _ (s : List ℕ) (ns₀ fs₀ ps₀ hs₀ bs₀ ns fs ps hs bs : List ℕ
               let (a, b) = refused_same T (reading s).root w p n' p' (sym L.answered ∙ e) x in
               rw (z, a, b)
 
-      pub sheet_goes_on : (c : Counts) (x : Checked) → r ≡ sheet-read.Read c → Answers (certificate_at certificate) fs bs c.words c.base x →
+      pub sheet_goes_on : (c : Counts) (x : Checked) → r ≡ sheet_read.Read c → Answers (certificate_at certificate) fs bs c.words c.base x →
           checked_numbers x ≡ verdict_numbers (verdict s certificate)
       unfolding verdict against
       sheet_goes_on c x e A =

@@ -21,7 +21,7 @@ use Rattle.bindings.specs.declared.Value.TheVariants.{Prop, Constructor, Functio
 use Rattle.bindings.specs.Numbers.{Small}
 use Rattle.bindings.specs.Stands.{under, Stands, Chain}
 use Rattle.bindings.proofs.Tags.{tag, held, kind_of, same_kind}
-use Rattle.bindings.proofs.Chains.{is_more, chain_low, pushed as pushed-on, scope_stands}
+use Rattle.bindings.proofs.Chains.{is_more, chain_low, pushed as pushed_on, scope_stands}
 use Rattle.tokens.specs.Tells.{TellsLemmas}
 use Rattle.tokens.proofs.Growth.{lemmas_more}
 use Rattle.tokens.proofs.Lemmas.{lemmas_join}
@@ -275,7 +275,7 @@ module _ (s : Shared) (d env b onto from left : ℕ) (m : M) where
               room = room_grew 0 1 1 b m₁ (bound_on m₁ v onto) fs₁ [] [] g b b 0 left 1 0 0 (left - 1) 1 0 (omega arith) R (omega arith) (omega arith) (omega arith) (le_refl (b + remaining m₁ + 0));
             };
             under = a.under ▸ Z.argument.value;
-            below = pushed-on A.text.rows fs₁ m₁.binds (bound m₁) onto argument_fits.0 a.under Z.argument.value v below₁ Z.stands;
+            below = pushed_on A.text.rows fs₁ m₁.binds (bound m₁) onto argument_fits.0 a.under Z.argument.value v below₁ Z.stands;
             few = omega arith;
             inside = omega arith;
           }
@@ -291,7 +291,7 @@ module _ (s : Shared) (d env b onto from left : ℕ) (m : M) where
             let g₂ = grew_bound b m₁ fs₁ v onto S₁.world.legible.table in
             let S₂ = setting_same 0 1 1 b m₁ (bound_on m₁ v onto) fs₁ [] g₂ x e β s env b (le_refl b) S₁ in
             let c₁ = bindings_grew 0 0 1 b m m₁ fs z.more z.told g x.rows f onto c in
-            let C = pushed-on x.rows fs₁ m₁.binds (bound m₁) onto argument_fits.0 f z.argument.value v c₁ z.stands in
+            let C = pushed_on x.rows fs₁ m₁.binds (bound m₁) onto argument_fits.0 f z.argument.value v c₁ z.stands in
             rw (
               list_run x e β,
               z.is,
@@ -312,7 +312,7 @@ module _ (s : Shared) (d env b onto from left : ℕ) (m : M) where
             let g₂ = grew_bound b m₁ fs₁ v onto S₁.world.legible.table in
             let S₂ = setting_same 0 1 1 b m₁ (bound_on m₁ v onto) fs₁ [] g₂ x e β s env b (le_refl b) S₁ in
             let c₁ = bindings_grew 0 0 1 b m m₁ fs z.more z.told g x.rows f onto ch in
-            let C = pushed-on x.rows fs₁ m₁.binds (bound m₁) onto argument_fits.0 f z.argument.value v c₁ z.stands in
+            let C = pushed_on x.rows fs₁ m₁.binds (bound m₁) onto argument_fits.0 f z.argument.value v c₁ z.stands in
             args (left - 1) b x.rows (bound_on m₁ v onto) m₃ fs₁ (f ▸ z.argument.value) β y c _ (L.meets x fs₁ e (f ▸ z.argument.value) β S₂ (rest_in x r) C)
 
         -- the argument before the others, and its lemma joined after them

@@ -3,7 +3,7 @@ use mathlib.Core.Path.{◌≡◌, refl, sym, ◌∙◌}
 use mathlib.Core.List.{List}
 use Prim.Native.Nat.{ℕ, zero, suc, ◌+◌, ◌*◌, ◌-◌, ◌≤◌, ◌<◌}
 use native.Mathlib.Omega.{arith}
-use Rattle.language.specs.Refusals.{budget_spent, too_deep as too-deep-number}
+use Rattle.language.specs.Refusals.{budget_spent, too_deep as too_deep_number}
 use Rattle.language.specs.Form.{Form}
 use Rattle.language.specs.Syntax.{Phrase}
 use Rattle.language.specs.Values.{Env}
@@ -23,11 +23,11 @@ module _ (s : Shared) (env b k : ℕ) (m : M) where
   spent_out zero h = record { meets = λ x fs e β S l. rw h (refl, refl) }
   spent_out (suc d) h = record { meets = λ x fs e β S l. rw h (refl, refl) }
 
-  pub too_deep : (d : ℕ) → (remaining m ≡ 0 → ⊥) → d ≡ 0 → Deduced s d env b k m (refused too-deep-number k)
+  pub too_deep : (d : ℕ) → (remaining m ≡ 0 → ⊥) → d ≡ 0 → Deduced s d env b k m (refused too_deep_number k)
   unfolding deduce entering Meets
   too_deep d h z = rw z (record { meets = λ x fs e β S l. go x e β fs (remaining m) h })
     where
-      go : (x : Text) (e : Env) (β fs : List Form) (n : ℕ) → (n ≡ 0 → ⊥) → Meets 0 0 0 b m fs (refused too-deep-number k) (deduce x.phrases 0 e β k n)
+      go : (x : Text) (e : Env) (β fs : List Form) (n : ℕ) → (n ≡ 0 → ⊥) → Meets 0 0 0 b m fs (refused too_deep_number k) (deduce x.phrases 0 e β k n)
       go x e β fs zero h = absurd (h refl)
       go x e β fs (suc n) h = (refl, refl)
 

@@ -19,7 +19,7 @@ use Rattle.expressions.specs.declared.State.{State}
 use Rattle.expressions.specs.Machine.{Shared, counters, mk as mkE}
 use Rattle.expressions.specs.Asked.{Text}
 use Rattle.expressions.specs.Meets.{Grew as GrewE}
-use Rattle.expressions.proofs.Growth.{world_grew, chain_grew, stands_grew, room_grew as roomE-grew, grew_then as grewE-then, grew_none as grewE-none, grew_push as grewE-push}
+use Rattle.expressions.proofs.Growth.{world_grew, chain_grew, stands_grew, room_grew as room_e_grew, grew_then as grew_e_then, grew_none as grew_e_none, grew_push as grew_e_push}
 use Rattle.deductions.specs.declared.Lemma.{Lemma}
 use Rattle.deductions.specs.declared.Lemma.TheVariants.{Of, None}
 use Rattle.deductions.specs.Machine.{M, mk, progress, inner, remaining, bound, spent, moved, joined_at, MOut, concluded, refused}
@@ -55,7 +55,7 @@ module _ (a c t b : ℕ) (m m' : M) (fs gs : List Form) (ts : List ℕ) (g : Gre
       let rt = R.tokens in let rb = R.base in let rs = R.short in let rm = R.small in
       let bl = g.base_long in let tl = g.tokens_long in
       record {
-        inner = roomE-grew a c (inner m) (inner m') fs gs g.inner A C a' c' R.inner p q;
+        inner = room_e_grew a c (inner m) (inner m') fs gs g.inner A C a' c' R.inner p q;
         tokens = omega arith;
         base = omega arith;
         short = omega arith;
@@ -69,7 +69,7 @@ pub grew_then : (a c t b a' c' t' b' A C T : ℕ) (m m₁ m₂ : M) (fs gs hs : 
 grew_then a c t b a' c' t' b' A C T m m₁ m₂ fs gs hs us vs x y h i j k =
     let xp = x.paid in let yp = y.paid in let xn = x.many in let yn = y.many in let l = length-append us vs in
     record {
-      inner = grewE-then a c a' c' A C (inner m) (inner m₁) (inner m₂) fs gs hs x.inner y.inner h i;
+      inner = grew_e_then a c a' c' A C (inner m) (inner m₁) (inner m₂) fs gs hs x.inner y.inner h i;
       base = λ q r. y.base q (omega arith) ∙ x.base q r;
       tokens = y.tokens ∙ ap (λ (w : List ℕ). w ++ vs) x.tokens ∙ append_assoc (take m.at.tokens m.tokens) us vs;
       many = omega arith;
@@ -139,7 +139,7 @@ after_same a c t b a' c' t' b' A C T m m₁ fs o r g y h i j k =
 
 pub grew_none : (a c t b : ℕ) (m : M) (fs : List Form) → 1 ≤ t → Table (used m) fs → Grew a c t b m m fs [] []
 grew_none a c t b m fs h T = record {
-  inner = grewE-none a c (inner m) fs T;
+  inner = grew_e_none a c (inner m) fs T;
   base = λ j l. refl;
   tokens = sym (append-nil (take m.at.tokens m.tokens));
   many = omega arith;
@@ -170,7 +170,7 @@ bound_on m v y = mk m.forms (sets m.binds (4 * bound m) (numbers_of v y)) m.base
 
 pub grew_bound : (b : ℕ) (m : M) (fs : List Form) (v : Value) (y : ℕ) → Table (used m) fs → Grew 0 1 1 b m (bound_on m v y) fs [] []
 grew_bound b m fs v y T = record {
-  inner = grewE-push (inner m) fs v y T;
+  inner = grew_e_push (inner m) fs v y T;
   base = λ j l. refl;
   tokens = sym (append-nil (take m.at.tokens m.tokens));
   many = omega arith;
@@ -189,7 +189,7 @@ joined_long s b None = refl
 
 pub grew_joined : (b k : ℕ) (m : M) (fs : List Form) (l : Lemma) → b ≤ k → Table (used m) fs → Grew 0 0 1 b m (joined_on m k l) fs [] []
 grew_joined b k m fs l h T = record {
-  inner = grewE-none 0 0 (inner m) fs T;
+  inner = grew_e_none 0 0 (inner m) fs T;
   base = λ j q. joined_below m.base k l j (omega arith);
   tokens = sym (append-nil (take m.at.tokens m.tokens));
   many = omega arith;
@@ -204,7 +204,7 @@ told_on m ts n = mk m.forms m.binds m.base (sets m.tokens m.at.tokens ts) (progr
 
 pub grew_told : (t b n : ℕ) (m : M) (fs : List Form) (ts : List ℕ) → n ≡ m.at.tokens + length ts → n ≤ length m.tokens → length ts + 1 ≤ t → Table (used m) fs → Grew 0 0 t b m (told_on m ts n) fs [] ts
 grew_told t b n m fs ts e h k T = record {
-  inner = grewE-none 0 0 (inner m) fs T;
+  inner = grew_e_none 0 0 (inner m) fs T;
   base = λ j q. refl;
   tokens = rw e (take_sets ts m.tokens m.at.tokens (omega arith));
   many = e;

@@ -9,7 +9,7 @@ use lib.Seq.{take-take, take_at, length-take-le}
 use Rattle.language.specs.Refusals.{wrong_kind, no_clause}
 use Rattle.language.specs.Form.{Form}
 use Rattle.language.specs.Values.{Env, Out, next, as_form, with_forms}
-use Rattle.language.specs.Patterns.{Choice as Chosen-clause, chosen, unfit, choose, on_choice}
+use Rattle.language.specs.Patterns.{Choice as ChosenClause, chosen, unfit, choose, on_choice}
 use Rattle.language.specs.Run.{evaluate, Derived, Argument, argument, deduced, deduce_step, deduce}
 use Rattle.forms.specs.Table.{tree, Table}
 use Rattle.records.specs.Rows.{clauses_of}
@@ -62,7 +62,7 @@ module _ (s : Shared) (env b k p : ℕ) (m : M) (n : ℕ) (i : n ≡ two s.phras
   pub clauses_offered : Matching s m env b k p → Offered m.forms s.patterns s.phrases (12 * k + 3) n p
   clauses_offered a = offered a.ready.text a.ready.formed a.ready.setting.world a.ready.row a.low
 
-  abbrev clauses : Text → Form → Chosen-clause
+  abbrev clauses : Text → Form → ChosenClause
   clauses x P = choose (clauses_of x.patterns n (drop (12 * k + 3) s.phrases)) P
 
   body_at : (x : Text) (fs : List Form) (P : Form) → World x fs s (inner m) → In k x → OnBody (Body x s) (clauses x P)
@@ -73,7 +73,7 @@ module _ (s : Shared) (env b k p : ℕ) (m : M) (n : ℕ) (i : n ≡ two s.phras
   unfolding Meets on_choice Picked
   none_fits d C = record { meets = λ x fs e β S l low. rw (← i) (go x fs e β (clauses x (tree fs p)) (C.meets (offered x fs S.world l low))) }
     where
-      go : (x : Text) (fs : List Form) (e : Env) (β : List Form) (q : Chosen-clause) → Picked fs Unfit q → Meets 0 4 0 b m fs (refused no_clause k) (on_choice q k (λ j ps. deduce x.phrases d (with_forms e ps) β j (remaining m)))
+      go : (x : Text) (fs : List Form) (e : Env) (β : List Form) (q : ChosenClause) → Picked fs Unfit q → Meets 0 4 0 b m fs (refused no_clause k) (on_choice q k (λ j ps. deduce x.phrases d (with_forms e ps) β j (remaining m)))
       go x fs e β (chosen j ps) z = absurd z
       go x fs e β unfit z = (refl, refl)
 
@@ -85,7 +85,7 @@ module _ (s : Shared) (env b k p : ℕ) (m : M) (n : ℕ) (i : n ≡ two s.phras
         r : Ready (In k) s m env b 0 4 0 0
         r = a.ready
 
-        go : (q : Chosen-clause) → Picked r.formed (Chosen body parts) q → Bindable m.binds (bound m) env parts
+        go : (q : ChosenClause) → Picked r.formed (Chosen body parts) q → Bindable m.binds (bound m) env parts
         go (chosen j ps) z =
             let B = binds_of r.formed ps parts z.1.0 z.1.1 z.1.2 z.1.3 in
             let few = B.few in
@@ -154,7 +154,7 @@ module _ (s : Shared) (env b k p : ℕ) (m : M) (n : ℕ) (i : n ≡ two s.phras
           r : Ready (In k) s m env b 0 4 0 0
           r = a.ready
 
-          go : (q : Chosen-clause) → Picked r.formed (Chosen body parts) q → OnBody (Body r.text s) q → Ready (In body) s parts_on y b 0 0 0 0 × (16 ≤ kind s.phrases body)
+          go : (q : ChosenClause) → Picked r.formed (Chosen body parts) q → OnBody (Body r.text s) q → Ready (In body) s parts_on y b 0 0 0 0 × (16 ≤ kind s.phrases body)
           go (chosen j ps) z h =
               let D = binds_of r.formed ps parts z.1.0 z.1.1 z.1.2 z.1.3 in
               let rm = (parts_bindable a).room in (
@@ -177,7 +177,7 @@ module _ (s : Shared) (env b k p : ℕ) (m : M) (n : ℕ) (i : n ≡ two s.phras
         meets = λ x fs e β S l low. rw (← i) (go x fs e β S (clauses x (tree fs p)) (C.meets (offered x fs S.world l low)) (body_at x fs (tree fs p) S.world l));
       }
         where
-          go : (x : Text) (fs : List Form) (e : Env) (β : List Form) → Setting x fs e β s m env b → (q : Chosen-clause) → Picked fs (Chosen body parts) q → OnBody (Body x s) q
+          go : (x : Text) (fs : List Form) (e : Env) (β : List Form) → Setting x fs e β s m env b → (q : ChosenClause) → Picked fs (Chosen body parts) q → OnBody (Body x s) q
               → Meets 0 4 0 b m fs o (on_choice q k (λ j ps. deduce x.phrases d (with_forms e ps) β j (remaining m)))
           go x fs e β S (chosen j ps) z h =
               let D = binds_of fs ps parts z.1.0 z.1.1 z.1.2 z.1.3 in

@@ -27,7 +27,7 @@ use Rattle.tokens.proofs.Growth.{names_more}
 use Rattle.rules.specs.declared.Applied.{Applied}
 use Rattle.rules.specs.declared.Applied.TheVariants.{Given}
 use Rattle.rules.specs.Base.{base_of}
-use Rattle.rules.specs.Applied.{Ready as Rule-ready, whether, outcome, Comes}
+use Rattle.rules.specs.Applied.{Ready as RuleReady, whether, outcome, Comes}
 use Rattle.expressions.specs.Machine.{Shared}
 use Rattle.expressions.specs.Asked.{Text}
 use Rattle.deductions.specs.declared.Conclusion.{Conclusion}
@@ -179,7 +179,7 @@ module _ (s : Shared) (m : M) (y b n r : ℕ) where
       rw (← l) (takes fs (truth_at (used m) fs T) (omega arith) x.rows m.binds (bound m) vs y (omega arith) C)
 
   pub conclude_asks : Applicable s m (Rule r) y b n → n ≡ get_or arity r 0 → (p q z : ℕ) → Props p q z ≡ taken_at m.binds y n 0 0 0
-      → Rule-ready m.forms m.at.state.props m.base b p q z × (m.at.tokens + 5 ≤ length m.tokens) × (length m.tokens ≤ 16384) × (n ≤ 3) × (r ≤ 15)
+      → RuleReady m.forms m.at.state.props m.base b p q z × (m.at.tokens + 5 ≤ length m.tokens) × (length m.tokens ≤ 16384) × (n ≤ 3) × (r ≤ 15)
   unfolding Takes
   conclude_asks a e p q z i =
       let g = a.ready in

@@ -21,7 +21,7 @@ use Rattle.forms.specs.Interned.{Interned, having}
 use Rattle.forms.specs.Table.{tree, formed, Table}
 use Rattle.forms.proofs.Positions.{having_paid}
 use Rattle.forms.proofs.Interning.{sized}
-use Rattle.forms.proofs.Growth.{after as interned-after}
+use Rattle.forms.proofs.Growth.{after as interned_after}
 use Rattle.forms.proofs.Trees.{same_at, falsity_at}
 use Rattle.bindings.specs.declared.Value.{Value}
 use Rattle.bindings.specs.declared.Value.TheVariants.{Prop}
@@ -33,7 +33,7 @@ use Rattle.expressions.specs.declared.State.{State}
 use Rattle.expressions.specs.Machine.{Shared, counters, mk as mkE, done, refused as refusedE, kind, one, two}
 use Rattle.expressions.specs.Asked.{Text, Row}
 use Rattle.expressions.specs.Meets.{Evaluated}
-use Rattle.expressions.proofs.Growth.{grew_none as grewE-none}
+use Rattle.expressions.proofs.Growth.{grew_none as grew_e_none}
 use Rattle.expressions.proofs.Steps.{trees_few}
 use Rattle.deductions.specs.declared.Lemma.TheVariants.{Of}
 use Rattle.deductions.specs.declared.Conclusion.{Conclusion}
@@ -319,7 +319,7 @@ forms b m t r fs y T below room small i =
     let l = length-take-le n m.forms (omega arith) in
     let c = T.count in
     let below' : Below (length (used m)) y = subst (λ (q : ℕ). Below q y) c below in
-    let A = interned-after n m.forms t r fs y T below' (omega arith) i in
+    let A = interned_after n m.forms t r fs y T below' (omega arith) i in
     let S = sized (code y) n m.forms t r (omega arith) i in
     let most = S.most in
     let paid = having_paid (code y) (used m) in
@@ -391,7 +391,7 @@ module _ (s : Shared) (d env b k f j : ℕ) (m : M) (H : Runs s d env b k f j m 
 pub grew_written : (t b n : ℕ) (m : M) (fs : List Form) (u ts : List ℕ) → n ≡ m.at.tokens + length ts → take n u ≡ take m.at.tokens m.tokens ++ ts → length u ≡ length m.tokens → length ts + 1 ≤ t → Table (used m) fs
     → Grew 0 0 t b m (mk m.forms m.binds m.base u (progress m.at.state n)) fs [] ts
 grew_written t b n m fs u ts e w l h T = record {
-  inner = grewE-none 0 0 (inner m) fs T;
+  inner = grew_e_none 0 0 (inner m) fs T;
   base = λ j q. refl;
   tokens = w;
   many = e;

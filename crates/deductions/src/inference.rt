@@ -1,7 +1,7 @@
 // A rule applied to arguments that are bound: their count and kind, the rule's answer, and its tokens.
 ghost use Rattle.std.specs.Prelude.{◌≡◌, ℕ, ◌+◌, ◌≤◌, length};
 ghost use Rattle.bindings.specs.declared.Value.TheVariants.{Rule};
-ghost use Rattle.rules.specs.Applied.{Ready as Rule-ready};
+ghost use Rattle.rules.specs.Applied.{Ready as RuleReady};
 ghost use Rattle.expressions.specs.Machine.{Shared};
 ghost use Rattle.deductions.specs.Machine.{mk, out_of, taken_at, Long, Inferred};
 ghost use Rattle.deductions.specs.Asked.{Applicable};
@@ -53,7 +53,7 @@ fn conclude(
     z: usize,
     k: usize,
 ) -> Conclusion
-    requires { Rule-ready forms.old at.state.props base.now b x y z × (at.tokens + 5 ≤ length tokens.old) × (length tokens.old ≤ 16384) × (n ≤ 3) × (r ≤ 15) }
+    requires { RuleReady forms.old at.state.props base.now b x y z × (at.tokens + 5 ≤ length tokens.old) × (length tokens.old ≤ 16384) × (n ≤ 3) × (r ≤ 15) }
     ensures { Inferred at b r n x y z k forms.old forms.new base.now tokens.old tokens.new result }
 {
     let st = at.state;

@@ -10,14 +10,14 @@ use Rattle.language.specs.Run.{Derived}
 use Rattle.forms.specs.Table.{number_of}
 use Rattle.forms.proofs.Trees.{number_at}
 use Rattle.expressions.specs.Machine as expressions
-use Rattle.expressions.specs.Meets as expressions-meets
+use Rattle.expressions.specs.Meets as expressions_meets
 use Rattle.deductions.specs.Machine.{M, inner, MOut, concluded, refused}
 use Rattle.deductions.specs.Meets.{Meets}
 use Rattle.determined.specs.Alike.{ValuesAlike, ConclusionsAlike, ConclusionNumber}
 
 pub values_by : (rows : List (List ℕ)) (m : expressions.M) (fs : List Form) (r : Out Val) (o o' : expressions.MOut) →
-    expressions-meets.Meets 0 0 rows m fs o r → expressions-meets.Meets 0 0 rows m fs o' r → ValuesAlike rows fs o o'
-unfolding expressions-meets.Meets ValuesAlike
+    expressions_meets.Meets 0 0 rows m fs o r → expressions_meets.Meets 0 0 rows m fs o' r → ValuesAlike rows fs o o'
+unfolding expressions_meets.Meets ValuesAlike
 values_by rows m fs (out X w) (expressions.done v m₁) (expressions.done v' m₂) (gs, g, x, e) (gs', g', x', e') =
     (e ∙ sym e', (X, record { more = gs; table = g.table; stands = x }, record { more = gs'; table = g'.table; stands = x' }))
 values_by rows m fs (out X w) (expressions.done v m₁) (expressions.refused n k) x y = absurd y

@@ -26,4 +26,9 @@ numbers = record {
   read_below = λ κs a z z' ws ws' x y. (gotten_once z z' (x ∙ sym y), refl);
   length_of = λ κs a z z' ws ws' x y. (x ∙ sym y, refl);
   write = λ κs a z z' ws ws' x y. (x.0 ∙ sym y.0, pair (x.1 ∙ sym y.1) refl);
+  cursor_at_learnt = λ κs a z z' ws ws' x y. (cursor_once _ _ z z' x y, refl);
+  moved_learnt = λ κs a z z' ws ws' x y. (cursor_once _ _ z z' x y, refl);
+  number_at_learnt = λ κs a z z' ws ws' x y. (gotten_once z z' (x ∙ sym y), refl);
+  number_from_learnt = λ κs a z z' ws ws' x y. (gotten_once z z' (x ∙ sym y), refl);
+  number_below_learnt = λ κs a z z' ws ws' x y. (gotten_once z z' (x ∙ sym y), refl);
 }

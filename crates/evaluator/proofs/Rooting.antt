@@ -24,7 +24,7 @@ use Rattle.records.specs.Rows.{cell}
 use Rattle.records.specs.Reading.{Tables, reading}
 use Rattle.reader.specs.declared.Counts.{Counts}
 use Rattle.reader.specs.declared.SheetRead.{SheetRead}
-use Rattle.reader.specs.declared.SheetRead.TheVariants as sheet-read
+use Rattle.reader.specs.declared.SheetRead.TheVariants as sheet_read
 use Rattle.reader.specs.Laid.{Laid}
 use Rattle.reader.specs.Stands.{Stands, ReadAs, read, unread}
 use Rattle.reader.specs.Buffers.{Holds}
@@ -62,7 +62,7 @@ based_read S T R bs₀ bs b e many =
 
 module _ (s : List ℕ) (ns₀ fs₀ ps₀ hs₀ bs₀ ns fs ps hs bs : List ℕ) (r : SheetRead) (L : Laid s r ns₀ fs₀ ps₀ hs₀ bs₀ ns fs ps hs bs) (budget : ℕ) (within : budget ≤ 1024) where
   -- the answer for a sheet that is refused
-  pub sheet_stops : (n place : ℕ) → r ≡ sheet-read.Refused n place → (out₀ : List ℕ) → Gives (answer s budget (length out₀)) out₀ (Refused n place) out₀
+  pub sheet_stops : (n place : ℕ) → r ≡ sheet_read.Refused n place → (out₀ : List ℕ) → Gives (answer s budget (length out₀)) out₀ (Refused n place) out₀
   unfolding answer pick started finished evaluated_numbers
   sheet_stops n place e out₀ = go (sheet s) refl (reading_sheet s)
     where
@@ -72,7 +72,7 @@ module _ (s : List ℕ) (ns₀ fs₀ ps₀ hs₀ bs₀ ns fs ps hs bs : List ℕ
           let (a, b) = refused_same (reading s).tables (reading s).root n place n' p' (sym L.answered ∙ e) x in
           record { numbers = rw (le-leb budget 1024 within, z, a, b); output = rw (le-leb budget 1024 within, z) }
 
-  module _ (binds tokens : List ℕ) (c : Counts) (e : r ≡ sheet-read.Read c) (f : length fs ≡ 4610) (v : length binds ≡ 16384) (t : length tokens ≡ 11264) (b : length bs ≡ 1088)
+  module _ (binds tokens : List ℕ) (c : Counts) (e : r ≡ sheet_read.Read c) (f : length fs ≡ 4610) (v : length binds ≡ 16384) (t : length tokens ≡ 11264) (b : length bs ≡ 1088)
       (h : length hs ≡ 6144) (p : length ps ≡ 640) (hs-kept : length hs ≡ length hs₀) (ps-kept : length ps ≡ length ps₀) where
     O : Opened s c
     O = opened s c (sym L.answered ∙ e)

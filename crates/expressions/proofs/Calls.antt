@@ -14,7 +14,7 @@ use Rattle.bindings.specs.Numbers.{numbers_of, Small}
 use Rattle.bindings.specs.Stands.{under, Stands, Chain}
 use Rattle.bindings.proofs.Numbers.{kept_stored, kept_then}
 use Rattle.bindings.proofs.Chains.{chain_low, stands_small, pushed, scope_stands}
-use Rattle.expressions.specs.Machine.{Shared, M, MOut, done, refused, MArgs, stopped, pushed as onto-chain, kind, one, two, listed}
+use Rattle.expressions.specs.Machine.{Shared, M, MOut, done, refused, MArgs, stopped, pushed as onto_chain, kind, one, two, listed}
 use Rattle.expressions.specs.Asked.{Text, Row, World, Room, Ready, Arglist, Applicable}
 use Rattle.expressions.specs.Meets.{Grew, Meets, MeetsArgs, Evaluated, Stepped, Listed, Called}
 use Rattle.expressions.proofs.Operands.{row_inside, says_call, operator_row, few_arguments, argument_rows}
@@ -83,7 +83,7 @@ module _ (s : Shared) (env onto from left : ℕ) (m : M) where
       }
 
 module _ (s : Shared) (d env onto from left : ℕ) (m : M) where
-  pub none_left : left ≡ 0 → Listed s d env onto from left m (onto-chain onto m)
+  pub none_left : left ≡ 0 → Listed s d env onto from left m (onto_chain onto m)
   unfolding MeetsArgs values listed with_all
   none_left h = rw h (record {
     meets = λ x fs e f w h c u. ([], grew_none 0 0 m fs w.legible.table, subst (λ (l : List Form). Chain x.rows l m.binds m.st.bindings f onto) (sym (append-nil fs)) u, refl, refl);
@@ -108,7 +108,7 @@ module _ (s : Shared) (d env onto from left : ℕ) (m : M) where
   more_by : (rows : List (List ℕ)) (fs gs : List Form) (f : Env) (X : Val) (v : Value) (m₁ : M) → (left ≡ 0 → ⊥) → Grew 0 0 m m₁ fs gs
       → (o : MArgs) (q : Out (List Val)) → MeetsArgs (left - 1) rows (push m₁ v onto) (fs ++ gs) (f ▸ X) o q → MeetsArgs left rows m fs f o (next q (λ vs. out (X ∷ vs)))
   unfolding MeetsArgs next with_all
-  more_by rows fs gs f X v m₁ h g (onto-chain y m') (out vs w) z =
+  more_by rows fs gs f X v m₁ h g (onto_chain y m') (out vs w) z =
       let n : suc (length vs) ≡ left = let l = z.3 in omega arith in (
         gs ++ z.0,
         grew_then 0 0 0 left 0 left m m₁ m' fs gs z.0 g (grew_pushed m₁ m' (fs ++ gs) z.0 v onto z.1 (omega arith)) (omega arith) (omega arith),
@@ -129,7 +129,7 @@ module _ (s : Shared) (d env onto from left : ℕ) (m : M) where
             forms_long = z.forms_long;
             binds_long = z.binds_long ∙ length-sets m.binds (4 * m.st.bindings) (numbers_of v y);
           }
-  more_by rows fs gs f X v m₁ h g (onto-chain y m') (stop a b) z = absurd z
+  more_by rows fs gs f X v m₁ h g (onto_chain y m') (stop a b) z = absurd z
   more_by rows fs gs f X v m₁ h g (stopped a b) (out vs w) z = absurd z
   more_by rows fs gs f X v m₁ h g (stopped a b) (stop n k) z = z
 
@@ -207,7 +207,7 @@ module _ (s : Shared) (env k : ℕ) (m : M) (is : kind s.phrases k ≡ 6) where
       }
 
 module _ (s : Shared) (d env k : ℕ) (m : M) (is : kind s.phrases k ≡ 6) where
-  pub call_apply : (n : ℕ) (m₁ : M) (v : Value) (y : ℕ) → n ≡ two s.phrases k → Got s m v env k 4 4 → Listed s d env (under v) (12 * k + 3) n m (onto-chain y m₁) → Applicable s m₁ v y n
+  pub call_apply : (n : ℕ) (m₁ : M) (v : Value) (y : ℕ) → n ≡ two s.phrases k → Got s m v env k 4 4 → Listed s d env (under v) (12 * k + 3) n m (onto_chain y m₁) → Applicable s m₁ v y n
   unfolding MeetsArgs
   call_apply n m₁ v y i g L =
       go (values (evaluate r.text.phrases d) r.bound (listed s.phrases (12 * k + 3) n) m.st.remaining.0)
@@ -220,7 +220,7 @@ module _ (s : Shared) (d env k : ℕ) (m : M) (is : kind s.phrases k ≡ 6) wher
       few : n ≤ 4
       few = let f = few_arguments r.text r.formed s m r.world k r.row is in omega arith
 
-      go : (q : Out (List Val)) → MeetsArgs n r.text.rows m r.formed (scope g.value) (onto-chain y m₁) q → Applicable s m₁ v y n
+      go : (q : Out (List Val)) → MeetsArgs n r.text.rows m r.formed (scope g.value) (onto_chain y m₁) q → Applicable s m₁ v y n
       go (out vs w) z = record {
         text = r.text;
         formed = r.formed ++ z.0;
@@ -278,7 +278,7 @@ module _ (s : Shared) (d env k : ℕ) (m : M) (is : kind s.phrases k ≡ 6) wher
     }
 
     apply_by : (x : Text) (fs gs : List Form) (X : Val) (v : Value) (m₁ m₂ : M) (y : ℕ) (o : MOut) → n ≤ 4 → World x (fs ++ gs) s m₁ → Grew 0 0 m m₁ fs gs → Stands x.rows (fs ++ gs) m₁.binds m₁.st.bindings X v → Called s d v y n k m₂ o
-        → (r : Out (List Val)) → MeetsArgs n x.rows m₁ (fs ++ gs) (scope X) (onto-chain y m₂) r → Meets 4 4 x.rows m fs o (next r (λ vs. called (evaluate x.phrases d) X vs k))
+        → (r : Out (List Val)) → MeetsArgs n x.rows m₁ (fs ++ gs) (scope X) (onto_chain y m₂) r → Meets 4 4 x.rows m fs o (next r (λ vs. called (evaluate x.phrases d) X vs k))
     unfolding MeetsArgs next
     apply_by x fs gs X v m₁ m₂ y o few w₁ g st C (out vs l) z =
         let hs = z.0 in
@@ -291,7 +291,7 @@ module _ (s : Shared) (d env k : ℕ) (m : M) (is : kind s.phrases k ≡ 6) wher
     apply_by x fs gs X v m₁ m₂ y o few w₁ g st C (stop a' b') z = absurd z
 
     apply_then : (x : Text) (fs : List Form) (e : Env) (v : Value) (m₁ m₂ : M) (y : ℕ) (o : MOut) → World x fs s m → Row x k → Chain x.rows fs m.binds m.st.bindings e env
-        → Listed s d env (under v) (12 * k + 3) n m₁ (onto-chain y m₂) → Called s d v y n k m₂ o → (q : Out Val) → Meets 0 0 x.rows m fs (done v m₁) q
+        → Listed s d env (under v) (12 * k + 3) n m₁ (onto_chain y m₂) → Called s d v y n k m₂ o → (q : Out Val) → Meets 0 0 x.rows m fs (done v m₁) q
         → Meets 4 4 x.rows m fs o (next q (rest x e))
     unfolding Meets next
     apply_then x fs e v m₁ m₂ y o w h c L C (out X l) z =
@@ -303,7 +303,7 @@ module _ (s : Shared) (d env k : ℕ) (m : M) (is : kind s.phrases k ≡ 6) wher
         (L.meets x (fs ++ gs) e (scope X) w₁ (rows_n x fs w h) (chain_grew 0 0 m m₁ fs gs g x.rows e env c) (scope_stands x.rows (fs ++ gs) m₁.binds m₁.st.bindings X v z.2)))
     apply_then x fs e v m₁ m₂ y o w h c L C (stop a' b') z = absurd z
 
-    pub call_is : (y : ℕ) (v : Value) (m₁ m₂ : M) (o : MOut) → Evaluated s d env a m (done v m₁) → Listed s d env (under v) (12 * k + 3) n m₁ (onto-chain y m₂) → Called s d v y n k m₂ o → Stepped s d env k m o
+    pub call_is : (y : ℕ) (v : Value) (m₁ m₂ : M) (o : MOut) → Evaluated s d env a m (done v m₁) → Listed s d env (under v) (12 * k + 3) n m₁ (onto_chain y m₂) → Called s d v y n k m₂ o → Stepped s d env k m o
     call_is y v m₁ m₂ o A L C = record {
       meets = λ x fs e w h c. subst (Meets 4 4 x.rows m fs o) (sym (call_step x fs w h e m.st.remaining.0))
           (apply_then x fs e v m₁ m₂ y o w h c L C (evaluate x.phrases d e a m.st.remaining.0) (A.meets x fs e w (row_a x fs w h) c));

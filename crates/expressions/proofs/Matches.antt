@@ -7,7 +7,7 @@ use lib.ListN.{length, drop}
 use Rattle.language.specs.Refusals.{wrong_kind, no_clause}
 use Rattle.language.specs.Form.{Form}
 use Rattle.language.specs.Values.{Val, form, Env, Out, out, stop, next, as_form, with_forms}
-use Rattle.language.specs.Patterns.{Choice as Chosen-clause, chosen, unfit, choose, on_choice}
+use Rattle.language.specs.Patterns.{Choice as ChosenClause, chosen, unfit, choose, on_choice}
 use Rattle.language.specs.Run.{evaluated, evaluate_step, evaluate}
 use Rattle.forms.specs.Table.{tree, Table}
 use Rattle.records.specs.Rows.{clauses_of}
@@ -53,7 +53,7 @@ module _ (s : Shared) (env k p : ℕ) (m : M) (n : ℕ) (i : n ≡ two s.phrases
   pub clauses_offered : Matching s m env k p → Offered m.forms s.patterns s.phrases (12 * k + 3) n p
   clauses_offered M = offered M.ready.text M.ready.formed s m k n p M.ready.world M.ready.row M.kind i M.low
 
-  abbrev clauses : Text → Form → Chosen-clause
+  abbrev clauses : Text → Form → ChosenClause
   clauses x P = choose (clauses_of x.patterns n (drop (12 * k + 3) s.phrases)) P
 
   body_at : (x : Text) (fs : List Form) (P : Form) → World x fs s m → Row x k → kind s.phrases k ≡ 9 → OnBody (Row x) (clauses x P)
@@ -64,7 +64,7 @@ module _ (s : Shared) (env k p : ℕ) (m : M) (n : ℕ) (i : n ≡ two s.phrases
   unfolding Meets on_choice Picked
   none_fits d C = record { meets = λ x fs e W h is low c. rw (← i) (go x fs e (clauses x (tree fs p)) (C.meets (offered x fs s m k n p W h is i low))) }
     where
-      go : (x : Text) (fs : List Form) (e : Env) (q : Chosen-clause) → Picked fs Unfit q → Meets 0 4 x.rows m fs (refused no_clause k) (on_choice q k (λ b ps. evaluate x.phrases d (with_forms e ps) b m.st.remaining.0))
+      go : (x : Text) (fs : List Form) (e : Env) (q : ChosenClause) → Picked fs Unfit q → Meets 0 4 x.rows m fs (refused no_clause k) (on_choice q k (λ b ps. evaluate x.phrases d (with_forms e ps) b m.st.remaining.0))
       go x fs e (chosen b ps) z = absurd z
       go x fs e unfit z = (refl, refl)
 
@@ -79,7 +79,7 @@ module _ (s : Shared) (env k p : ℕ) (m : M) (n : ℕ) (i : n ≡ two s.phrases
         clauses_offered' : Offered m.forms s.patterns s.phrases (12 * k + 3) n p
         clauses_offered' = offered r.text r.formed s m k n p r.world r.row M.kind i M.low
 
-        go : (q : Chosen-clause) → Picked r.formed (Chosen body parts) q → Bindable m.binds m.st.bindings env parts
+        go : (q : ChosenClause) → Picked r.formed (Chosen body parts) q → Bindable m.binds m.st.bindings env parts
         go (chosen b ps) z =
             let B = binds_of r.formed ps parts z.1.0 z.1.1 z.1.2 z.1.3 in
             let few = B.few in
@@ -131,7 +131,7 @@ module _ (s : Shared) (env k p : ℕ) (m : M) (n : ℕ) (i : n ≡ two s.phrases
           r : Ready s m env k 4 4
           r = M.ready
 
-          go : (q : Chosen-clause) → Picked r.formed (Chosen body parts) q → OnBody (Row r.text) q → Ready s bound y body 0 0
+          go : (q : ChosenClause) → Picked r.formed (Chosen body parts) q → OnBody (Row r.text) q → Ready s bound y body 0 0
           go (chosen b ps) z h =
               let D = binds_of r.formed ps parts z.1.0 z.1.1 z.1.2 z.1.3 in
               let few = D.few in
@@ -154,7 +154,7 @@ module _ (s : Shared) (env k p : ℕ) (m : M) (n : ℕ) (i : n ≡ two s.phrases
         meets = λ x fs e W h is low c. rw (← i) (go x fs e W c (clauses x (tree fs p)) (C.meets (offered x fs s m k n p W h is i low)) (body_at x fs (tree fs p) W h is));
       }
         where
-          go : (x : Text) (fs : List Form) (e : Env) → World x fs s m → Chain x.rows fs m.binds m.st.bindings e env → (q : Chosen-clause) → Picked fs (Chosen body parts) q → OnBody (Row x) q
+          go : (x : Text) (fs : List Form) (e : Env) → World x fs s m → Chain x.rows fs m.binds m.st.bindings e env → (q : ChosenClause) → Picked fs (Chosen body parts) q → OnBody (Row x) q
               → Meets 0 4 x.rows m fs o (on_choice q k (λ b ps. evaluate x.phrases d (with_forms e ps) b m.st.remaining.0))
           go x fs e W c (chosen b ps) z h =
               let D = binds_of fs ps parts z.1.0 z.1.1 z.1.2 z.1.3 in

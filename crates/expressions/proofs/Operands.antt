@@ -17,7 +17,7 @@ use Rattle.records.specs.Rows.{cell, flat, phrase_cells, pattern_by, pattern_of,
 use Rattle.theorems.specs.Lists.{All}
 use Rattle.theorems.proofs.Lists.{all_at}
 use Rattle.reader.specs.Stands.{Earlier, Expr, Dedu, ClauseOf, PatternRow, any_row, exactly_row, not_row, join_row, PatternRows, PhraseRows, PhraseRow}
-use Rattle.reader.specs.Stands.{prop_row, var_row, con_row, rule_row, function_row, method_row, call_row, let_row, fix_row as fix-cells, match_row, apply_row, assume_row, suppose_row, dlet_row, by_row, block_row, dmatch_row}
+use Rattle.reader.specs.Stands.{prop_row, var_row, con_row, rule_row, function_row, method_row, call_row, let_row, fix_row as fix_cells, match_row, apply_row, assume_row, suppose_row, dlet_row, by_row, block_row, dmatch_row}
 use Rattle.reader.proofs.Laying.{phrase_at_wide}
 use Rattle.bindings.specs.Stands.{kind_of_sort}
 use Rattle.patterns.proofs.Clauses.{clauses_by}
@@ -114,7 +114,7 @@ operands (function_row a b) = (a, b)
 operands (method_row a b) = (a, b)
 operands {k = k} {rows = rows} (call_row {e} {n} xs a l b c) = (a, b, several (Expr rows k) 6 e n xs l b c)
 operands (let_row a b) = (a, b)
-operands (fix-cells a b) = (a, b)
+operands (fix_cells a b) = (a, b)
 operands {nq = nq} {k = k} {rows = rows} (match_row {e} {n} cs a l b c d) = (a, b, c, clauses nq (Expr rows k) 9 e n cs l c d)
 operands {k = k} {rows = rows} (apply_row {e} {n} xs a l b c) = (a, b, several (Earlier rows k) 16 e n xs l b c)
 operands (assume_row a b) = (a, b)
@@ -135,7 +135,7 @@ low_kind (function_row a b) h = omega arith
 low_kind (method_row a b) h = omega arith
 low_kind (call_row xs a l b c) h = omega arith
 low_kind (let_row a b) h = omega arith
-low_kind (fix-cells a b) h = omega arith
+low_kind (fix_cells a b) h = omega arith
 low_kind (match_row cs a l b c d) h = omega arith
 low_kind (apply_row xs a l b c) h = omega arith
 low_kind (assume_row a b) h = omega arith
@@ -156,7 +156,7 @@ module _ (fs gs : List Form) where
   more_words (method_row a b) = method_row a b
   more_words (call_row xs a l b c) = call_row xs a l b c
   more_words (let_row a b) = let_row a b
-  more_words (fix-cells a b) = fix-cells a b
+  more_words (fix_cells a b) = fix_cells a b
   more_words (match_row cs a l b c d) = match_row cs a l b c d
   more_words (apply_row xs a l b c) = apply_row xs a l b c
   more_words (assume_row a b) = assume_row a b
@@ -176,7 +176,7 @@ module _ (fs gs : List Form) where
   same_phrase qs (method_row a b) = refl
   same_phrase qs (call_row xs a l b c) = refl
   same_phrase qs (let_row a b) = refl
-  same_phrase qs (fix-cells a b) = refl
+  same_phrase qs (fix_cells a b) = refl
   same_phrase qs (match_row cs a l b c d) = refl
   same_phrase qs (apply_row xs a l b c) = refl
   same_phrase qs (assume_row a b) = refl

@@ -7,7 +7,7 @@ use native.Mathlib.Omega.{arith}
 use native.Mathlib.Numerals.{sub-one}
 use lib.ListN.{length}
 use lib.Seq.{sets}
-use Rattle.language.specs.Refusals.{budget_spent, too_deep as too-deep-number}
+use Rattle.language.specs.Refusals.{budget_spent, too_deep as too_deep_number}
 use Rattle.language.specs.Form.{Form}
 use Rattle.language.specs.Syntax.{Sort, function, method, Phrase, Expression, expr, phrase_at}
 use Rattle.language.specs.Values.{Val, form, con_v, rule_v, closure, Env, ◌▸◌, Out, out, stop, next, lookup}
@@ -37,11 +37,11 @@ module _ (s : Shared) (env k : ℕ) (m : M) where
   spent_out zero h = record { meets = λ x fs e w r c. rw h (refl, refl) }
   spent_out (suc d) h = record { meets = λ x fs e w r c. rw h (refl, refl) }
 
-  pub too_deep : (d : ℕ) → (m.st.remaining.0 ≡ 0 → ⊥) → d ≡ 0 → Evaluated s d env k m (refused too-deep-number k)
+  pub too_deep : (d : ℕ) → (m.st.remaining.0 ≡ 0 → ⊥) → d ≡ 0 → Evaluated s d env k m (refused too_deep_number k)
   unfolding evaluate entering Meets
   too_deep d h z = rw z (record { meets = λ x fs e w r c. go x e fs m.st.remaining.0 h })
     where
-      go : (x : Text) (e : Env) (fs : List Form) (n : ℕ) → (n ≡ 0 → ⊥) → Meets 0 0 x.rows m fs (refused too-deep-number k) (evaluate x.phrases 0 e k n)
+      go : (x : Text) (e : Env) (fs : List Form) (n : ℕ) → (n ≡ 0 → ⊥) → Meets 0 0 x.rows m fs (refused too_deep_number k) (evaluate x.phrases 0 e k n)
       go x e fs zero h = absurd (h refl)
       go x e fs (suc n) h = (refl, refl)
 

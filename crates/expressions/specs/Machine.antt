@@ -16,7 +16,7 @@ use Rattle.expressions.specs.declared.State.{State}
 use Rattle.expressions.specs.declared.Listing.{Listing}
 use Rattle.expressions.specs.declared.Listing.TheVariants.{Pushed, Stopped}
 use Rattle.expressions.specs.declared.Piece.{Piece}
-use Rattle.expressions.specs.declared.Piece.TheVariants.{Formed as Formed-piece, Other}
+use Rattle.expressions.specs.declared.Piece.TheVariants.{Formed as FormedPiece, Other}
 use Rattle.expressions.specs.declared.Outcome.{Outcome}
 use Rattle.expressions.specs.declared.Outcome.TheVariants.{Done, Refused}
 
@@ -88,7 +88,7 @@ variable_of k st Free = Refused no_binding k
 
 -- a value as a part of a proposition
 abbrev pub part_of : Value → Piece
-part_of (Prop p) = Formed-piece p
+part_of (Prop p) = FormedPiece p
 part_of (Constructor c) = Other
 part_of (Rule r) = Other
 part_of (Function f) = Other

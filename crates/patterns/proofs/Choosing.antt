@@ -10,7 +10,7 @@ use lib.Seq.{get_or-drop, drop-drop}
 use Rattle.language.specs.Form.{Form}
 use Rattle.language.specs.Syntax.{Pattern, any}
 use Rattle.language.specs.Read.{binders}
-use Rattle.language.specs.Patterns.{fits, Choice as Chosen-clause, choose, or_else}
+use Rattle.language.specs.Patterns.{fits, Choice as ChosenClause, choose, or_else}
 use Rattle.forms.specs.Table.{tree}
 use Rattle.records.specs.Rows.{clauses_of}
 use Rattle.patterns.specs.declared.Parts.{Parts}
@@ -56,7 +56,7 @@ module _ (forms patterns phrases : List ℕ) (from left p : ℕ) where
       let z : from + 0 ≡ from = omega arith in
       rw (get_or-drop from phrases 0 0, get_or-drop from phrases 1 0, drop-drop 2 from phrases, z, sub-one)
 
-  fit_by : (fs : List Form) (a : Pattern) (c : Parts) (k : ℕ) (o : Option (List Form)) (rest : Chosen-clause) → binders a ≤ 4 → Fitted fs a none_bound (Fits c) o → Picked fs (Chosen k c) (or_else o k rest)
+  fit_by : (fs : List Form) (a : Pattern) (c : Parts) (k : ℕ) (o : Option (List Form)) (rest : ChosenClause) → binders a ≤ 4 → Fitted fs a none_bound (Fits c) o → Picked fs (Chosen k c) (or_else o k rest)
   unfolding Fitted Picked or_else
   fit_by fs a c k none rest l h = absurd h
   fit_by fs a c k (some ps) rest l h = (refl, (h.0, h.1, h.2, (let e = h.3 in omega arith)))
@@ -72,7 +72,7 @@ module _ (forms patterns phrases : List ℕ) (from left p : ℕ) where
         (fit_by x.trees (get_or x.qs q any) c k (fits (get_or x.qs q any) (tree x.trees p)) (choose (clauses_of x.qs (left - 1) (drop (from + 2) phrases)) (tree x.trees p)) (omega arith) (F.meets t));
   }
 
-  miss_by : (fs : List Form) (a : Pattern) (k : ℕ) (r : Choice) (o : Option (List Form)) (rest : Chosen-clause) → Fitted fs a none_bound Misses o → Picked fs r rest → Picked fs r (or_else o k rest)
+  miss_by : (fs : List Form) (a : Pattern) (k : ℕ) (r : Choice) (o : Option (List Form)) (rest : ChosenClause) → Fitted fs a none_bound Misses o → Picked fs r rest → Picked fs r (or_else o k rest)
   unfolding Fitted or_else
   miss_by fs a k r none rest h g = g
   miss_by fs a k r (some ps) rest h g = absurd h

@@ -7,7 +7,7 @@ use native.Mathlib.Omega.{arith}
 use lib.ListN.{length, get_or, take, drop}
 use Rattle.language.specs.Form.{Form, verum}
 use Rattle.language.specs.Syntax.{Pattern, any}
-use Rattle.language.specs.Patterns.{fits, Choice as Chosen-clause, chosen, unfit, choose}
+use Rattle.language.specs.Patterns.{fits, Choice as ChosenClause, chosen, unfit, choose}
 use Rattle.forms.specs.Table.{tree, Table}
 use Rattle.forms.proofs.Trees.{distinct}
 use Rattle.records.specs.Rows.{clauses_of}
@@ -45,7 +45,7 @@ module _ (ws : List ℕ) (fs : List Form) (T : Table ws fs) where
   fitted_once a b (some ps) (Fits c) (Fits c') x y =
       ap Fits (x.1 ∙ ap (extend b) (names_once ps x.0 y.0 x.2 y.2) ∙ sym y.1)
 
-  picked_once : (o : Chosen-clause) (r r' : Choice) → Picked fs r o → Picked fs r' o → r ≡ r'
+  picked_once : (o : ChosenClause) (r r' : Choice) → Picked fs r o → Picked fs r' o → r ≡ r'
   unfolding Picked
   picked_once unfit (Chosen k c) r' x y = absurd x
   picked_once unfit Unfit (Chosen k c) x y = absurd y

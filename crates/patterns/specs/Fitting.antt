@@ -4,7 +4,7 @@ use Rattle.std.proofs.Math.Option.{Option, some, none}
 use Rattle.language.specs.Form.{Form}
 use Rattle.language.specs.Syntax.{Pattern, any}
 use Rattle.language.specs.Read.{binders}
-use Rattle.language.specs.Patterns.{fits, Choice as Chosen-clause, chosen, unfit, choose}
+use Rattle.language.specs.Patterns.{fits, Choice as ChosenClause, chosen, unfit, choose}
 use Rattle.forms.specs.Table.{tree, Table}
 use Rattle.records.specs.Rows.{cell, clauses_of}
 use Rattle.theorems.specs.Lists.{All}
@@ -73,7 +73,7 @@ pub record Offered (forms patterns phrases : List ℕ) (from left p : ℕ) : Typ
   pub short : length phrases ≤ 16384
 
 -- the clause that is chosen, and what `choose` gives
-unfoldable pub Picked : List Form → Choice → Chosen-clause → Type 0
+unfoldable pub Picked : List Form → Choice → ChosenClause → Type 0
 unfolding extend
 Picked fs (Chosen k c) (chosen b ps) = (k ≡ b) × ((ns : List ℕ) × (c ≡ extend none_bound ns) × Named fs ns ps × (length ns ≤ 4))
 Picked fs (Chosen k c) unfit = ⊥

@@ -12,7 +12,7 @@ use Rattle.records.specs.declared.Ended.{Ended}
 use Rattle.records.specs.declared.Ended.TheVariants as ended
 use Rattle.reader.specs.declared.Named.{Named}
 use Rattle.reader.specs.declared.SheetRead.{SheetRead}
-use Rattle.reader.specs.declared.SheetRead.TheVariants as sheet-read
+use Rattle.reader.specs.declared.SheetRead.TheVariants as sheet_read
 use Rattle.reader.specs.declared.parts.Listed.{Listed}
 use Rattle.records.specs.Rows.{flat}
 use Rattle.records.specs.Reading.{Kept, Tables, Reading, naming, keeping, name_ref, pattern_row, phrase_row, onward, root_at, after_base, after_phrases, after_patterns, after_props, reading}
@@ -66,11 +66,11 @@ module _ (s : List ℕ) (T : Tables) (at : ℕ) (bs₀ bs : List ℕ) (b : Liste
   ending : (g : Got ℕ) (r : SheetRead) → after_base s T B ≡ record { tables = W; root = g } → r ≡ counted W g → FromBase (after_base s T B) r bs₀ bs
   ending g r e a = rw e (record { answered = a; base = G.table })
 
-  pub base_refused : (why q : ℕ) → b.ended ≡ ended.Refused why q → FromBase (after_base s T B) (sheet-read.Refused why q) bs₀ bs
+  pub base_refused : (why q : ℕ) → b.ended ≡ ended.Refused why q → FromBase (after_base s T B) (sheet_read.Refused why q) bs₀ bs
   unfolding after_base onward counted
   base_refused why q e =
       let f = ended_no b.ended B.ended why q e G.ended in
-      ending (no why q) (sheet-read.Refused why q) (rw f) refl
+      ending (no why q) (sheet_read.Refused why q) (rw f) refl
 
   module _ (next : ℕ) (e : b.ended ≡ ended.At next) (g : Got ℕ) (r : root_at s T.phrases next ≡ g) where
     rooted : after_base s T B ≡ record { tables = W; root = g }
@@ -86,22 +86,22 @@ module _ (s : List ℕ) (T : Tables) (at props words patterns count : ℕ) (ns h
   G' : Gathered (part_four s T.names at) b bs₀ bs
   G' = rw H.names G
 
-  pub from_base_refused : (why q : ℕ) → b.ended ≡ ended.Refused why q → FromBase (after_base s T (part_four s T.names at)) (sheet-read.Refused why q) bs₀ bs
+  pub from_base_refused : (why q : ℕ) → b.ended ≡ ended.Refused why q → FromBase (after_base s T (part_four s T.names at)) (sheet_read.Refused why q) bs₀ bs
   from_base_refused = base_refused s T at bs₀ bs b G'
 
   pub from_base_rootless : (next why q : ℕ) → b.ended ≡ ended.At next → root_at s (rows_in 12 count hs) next ≡ no why q
-      → FromBase (after_base s T (part_four s T.names at)) (sheet-read.Refused why q) bs₀ bs
+      → FromBase (after_base s T (part_four s T.names at)) (sheet_read.Refused why q) bs₀ bs
   unfolding counted
-  from_base_rootless next why q e r = root_answered s T at bs₀ bs b G' next e (no why q) (rw are r) (sheet-read.Refused why q) refl
+  from_base_rootless next why q e r = root_answered s T at bs₀ bs b G' next e (no why q) (rw are r) (sheet_read.Refused why q) refl
 
   pub from_base_rooted : (next root end : ℕ) → b.ended ≡ ended.At next → root_at s (rows_in 12 count hs) next ≡ got root end
-      → FromBase (after_base s T (part_four s T.names at)) (sheet-read.Read (record { props = props; words = words; patterns = patterns; phrases = count; base = b.count; root = root })) bs₀ bs
+      → FromBase (after_base s T (part_four s T.names at)) (sheet_read.Read (record { props = props; words = words; patterns = patterns; phrases = count; base = b.count; root = root })) bs₀ bs
   unfolding counted
   from_base_rooted next root end e r =
       let h : length T.phrases ≡ count = ap length are ∙ rows_long 12 count hs in
       let c : length (part_four s T.names at).items ≡ b.count = sym G'.count in
       root_answered s T at bs₀ bs b G' next e (got root end) (rw are r)
-      (sheet-read.Read (record { props = props; words = words; patterns = patterns; phrases = count; base = b.count; root = root }))
+      (sheet_read.Read (record { props = props; words = words; patterns = patterns; phrases = count; base = b.count; root = root }))
       (rw (H.props_many, H.words_many, many, h, c))
 
 -- part 3, and what follows it
@@ -120,7 +120,7 @@ module _ (s : List ℕ) (T : Tables) (at : ℕ) (hs₀ hs bs₀ : List ℕ) (f :
   abbrev with_phrases : Tables
   with_phrases = tables T T.patterns F.items []
 
-  pub phrases_refused : (why q : ℕ) → f.ended ≡ ended.Refused why q → FromPhrases (after_phrases s T F) (sheet-read.Refused why q) hs₀ bs₀ hs bs₀
+  pub phrases_refused : (why q : ℕ) → f.ended ≡ ended.Refused why q → FromPhrases (after_phrases s T F) (sheet_read.Refused why q) hs₀ bs₀ hs bs₀
   unfolding after_phrases onward counted
   phrases_refused why q e =
       let x : after_phrases s T F ≡ record { tables = with_phrases; root = no why q } = rw (ended_no f.ended F.ended why q e L.ended) in
@@ -142,7 +142,7 @@ module _ (s : List ℕ) (T : Tables) (at props words patterns : ℕ) (ns hs₀ h
   L' : Listing 12 512 (part_three s T.names (length T.patterns) at) f hs₀ hs
   L' = rw (H.names, many) L
 
-  pub from_phrases_refused : (why q : ℕ) → f.ended ≡ ended.Refused why q → FromPhrases (after_phrases s T (part_three s T.names (length T.patterns) at)) (sheet-read.Refused why q) hs₀ bs₀ hs bs₀
+  pub from_phrases_refused : (why q : ℕ) → f.ended ≡ ended.Refused why q → FromPhrases (after_phrases s T (part_three s T.names (length T.patterns) at)) (sheet_read.Refused why q) hs₀ bs₀ hs bs₀
   from_phrases_refused = phrases_refused s T at hs₀ hs bs₀ f L'
 
   pub from_phrases_read : (next : ℕ) (r : SheetRead) (bs : List ℕ) → f.ended ≡ ended.At next
@@ -170,7 +170,7 @@ module _ (s : List ℕ) (T : Tables) (at : ℕ) (ps₀ ps hs₀ bs₀ : List ℕ
   abbrev with_patterns : Tables
   with_patterns = tables T Q.items [] []
 
-  pub patterns_refused : (why p : ℕ) → q.ended ≡ ended.Refused why p → FromPatterns (after_patterns s T Q) (sheet-read.Refused why p) ps₀ hs₀ bs₀ ps hs₀ bs₀
+  pub patterns_refused : (why p : ℕ) → q.ended ≡ ended.Refused why p → FromPatterns (after_patterns s T Q) (sheet_read.Refused why p) ps₀ hs₀ bs₀ ps hs₀ bs₀
   unfolding after_patterns onward counted flat
   patterns_refused why p e =
       let x : after_patterns s T Q ≡ record { tables = with_patterns; root = no why p } = rw (ended_no q.ended Q.ended why p e L.ended) in
@@ -192,7 +192,7 @@ module _ (s : List ℕ) (T : Tables) (at props words : ℕ) (ns ps₀ ps hs₀ b
   L'' : Listing 5 128 (part_two s T.names at) q ps₀ ps
   L'' = rw H.names L
 
-  pub from_patterns_refused : (why p : ℕ) → q.ended ≡ ended.Refused why p → FromPatterns (after_patterns s T (part_two s T.names at)) (sheet-read.Refused why p) ps₀ hs₀ bs₀ ps hs₀ bs₀
+  pub from_patterns_refused : (why p : ℕ) → q.ended ≡ ended.Refused why p → FromPatterns (after_patterns s T (part_two s T.names at)) (sheet_read.Refused why p) ps₀ hs₀ bs₀ ps hs₀ bs₀
   from_patterns_refused = patterns_refused s T at ps₀ ps hs₀ bs₀ q L''
 
   pub from_patterns_read : (next : ℕ) (r : SheetRead) (hs bs : List ℕ) → q.ended ≡ ended.At next
@@ -235,7 +235,7 @@ module _ (s : List ℕ) (ns₀ fs₀ ns fs : List ℕ) (p : Named) (P : Proposit
       let k : length ns ≡ length (part_one s).names + length (drop (length (part_one s).names) ns₀) = ap length P.names ∙ length-append (part_one s).names (drop (length (part_one s).names) ns₀) in
       omega arith
 
-  pub whole_refused : (ps hs bs : List ℕ) (why q : ℕ) → p.ended ≡ ended.Refused why q → Laid s (sheet-read.Refused why q) ns₀ fs₀ ps hs bs ns fs ps hs bs
+  pub whole_refused : (ps hs bs : List ℕ) (why q : ℕ) → p.ended ≡ ended.Refused why q → Laid s (sheet_read.Refused why q) ns₀ fs₀ ps hs bs ns fs ps hs bs
   unfolding after_props onward counted flat
   whole_refused ps hs bs why q e =
       let x : reading s ≡ record { tables = with_names; root = no why q } = reading_parts s ∙ rw (ended_no p.ended (part_one s).ended why q e P.ended) in

@@ -4,7 +4,7 @@ use Rattle.language.specs.Numbers.{Got, got, no}
 use Rattle.words.specs.Front.{front}
 use Rattle.reader.specs.declared.Named.{Named}
 use Rattle.reader.specs.declared.SheetRead.{SheetRead}
-use Rattle.reader.specs.declared.SheetRead.TheVariants as sheet-read
+use Rattle.reader.specs.declared.SheetRead.TheVariants as sheet_read
 use Rattle.reader.specs.declared.parts.Listed.{Listed}
 use Rattle.records.specs.Rows.{flat}
 use Rattle.records.specs.Reading.{Kept, Props, Tables, Reading, reading}
@@ -40,9 +40,9 @@ pub record Gathered (K : Kept ℕ) (r : Listed) (t₀ t : List ℕ) : Type 0 whe
 
 -- what a sheet's reading answers: how many there are of each, with the root, or the refusal
 unfoldable pub counted : Tables → Got ℕ → SheetRead
-counted T (no why place) = sheet-read.Refused why place
+counted T (no why place) = sheet_read.Refused why place
 counted T (got root end) =
-    sheet-read.Read (record {
+    sheet_read.Read (record {
       props = length T.names;
       words = length T.words;
       patterns = length T.patterns;

@@ -19,7 +19,7 @@ use Rattle.language.specs.Certificate.{certificate}
 use Rattle.language.specs.Answer.{accepted, refused, written, ended, started, answer}
 use Rattle.theorems.specs.Demands.{DeducesExactly, AcceptsExactly}
 use Rattle.theorems.proofs.Lists.{clash}
-use Rattle.theorems.proofs.Ran.{Ran, stopped, ended as ended-with}
+use Rattle.theorems.proofs.Ran.{Ran, stopped, ended as ended_with}
 use Rattle.theorems.proofs.Obeys.{deduce_ran}
 use Rattle.theorems.proofs.Exact.{interpreted}
 
@@ -48,7 +48,7 @@ module _ (S : Sheet) (budget room : ℕ) (bytes : List ℕ) (w i : ℕ) where
   only : {o : Out Derived} → Ran (Derives S.phrases 64 empty S.base S.root) budget o → ended budget room o ≡ accepted bytes w i → Accepted
   unfolding ended
   only stopped h = absurd (clash (cc))
-  only (ended-with {a} {w'} u x e) h =
+  only (ended_with {a} {w'} u x e) h =
       let (b, v, j, l) = fits_written room (certificate a) (budget - w') (inferences a.proof) h in
       let z : w ≡ u = omega arith in
       (a, rw z x, omega arith, b, j, rw b l)

@@ -11,12 +11,12 @@ use Rattle.language.specs.Values.{Val, Env, Out, out}
 use Rattle.language.specs.Run.{Derived}
 use Rattle.language.specs.Derives.{Evaluates, Derives}
 use Rattle.theorems.specs.Demands.{EvaluatesExactly, DeducesExactly}
-use Rattle.theorems.proofs.Ran.{Ran, ended as ended-with}
+use Rattle.theorems.proofs.Ran.{Ran, ended as ended_with}
 use Rattle.theorems.proofs.Obeys.{evaluate_ran, deduce_ran}
 use Rattle.theorems.proofs.Costs.{Costs, evaluate_costs, deduce_costs}
 
 ran_out : {A : Type 0} {P : A → ℕ → Type 0} {w w' : ℕ} {a : A} → Ran P w (out a w') → (u : ℕ) × P a u × (u + w' ≡ w)
-ran_out (ended-with u p e) = (u, p, e)
+ran_out (ended_with u p e) = (u, p, e)
 
 module _ {A : Type 0} {o : ℕ → Out A} where
   -- what a run costs and gives is one thing only

@@ -16,7 +16,7 @@ use Rattle.language.specs.Read.{reference, proposition_kinds, proposition, binde
 use Rattle.language.specs.Rules.{arity}
 use Rattle.language.specs.Check.{Counted, ReadNode, plain, rule_node, inner, node, Certificate, certificate_at, own, checked, against, verdict}
 use Rattle.language.specs.Certificate.{certificate}
-use Rattle.language.specs.Answer.{accepted, refused as refused-answer, started, answer}
+use Rattle.language.specs.Answer.{accepted, refused as refused_answer, started, answer}
 use Rattle.theorems.specs.Demands.{nodes, AcceptsExactly}
 use Rattle.theorems.specs.Longest.{LongestSheet, LongestCertificate, LongestAccepted, SheetFront, CertificateFront, AnswerFront, VerdictFront}
 use Rattle.theorems.proofs.Lists.{clash}
@@ -292,7 +292,7 @@ pub longest_accepted : LongestAccepted
 unfolding LongestAccepted answer pick started
 longest_accepted s budget room bytes w i a = go (leb budget 1024) refl (sheet s) refl a
   where
-    go : (b : Bool) → leb budget 1024 ≡ b → (g : Got Sheet) → sheet s ≡ g → pick b (started budget room g) (refused-answer budget_over 0) ≡ accepted bytes w i → length bytes ≤ 47612
+    go : (b : Bool) → leb budget 1024 ≡ b → (g : Got Sheet) → sheet s ≡ g → pick b (started budget room g) (refused_answer budget_over 0) ≡ accepted bytes w i → length bytes ≤ 47612
     go false t g e h = absurd (clash cc)
     go true t (no n p) e h = absurd (clash cc)
     go true t (got S end) e h = accepted_long s S end budget room bytes w i e (leb-true budget 1024 t) (rw (t, e) h)

@@ -1,7 +1,7 @@
 // Bytes written in decimal, with white space between them and around them, as document 01 writes them.
 ghost use Rattle.std.specs.Prelude.{◌≡◌, ◌-◌, ◌≤◌};
-ghost use Rattle.wording.specs.Page.{page as Page·page, write};
-ghost use Rattle.wording.specs.Decimals.{white, up as Decimals·up, spaced as Decimals·spaced, grown as Decimals·grown, digit as Decimals·digit, other as Decimals·other, turn as Decimals·turn, next, ended as Decimals·ended, ends, unread as Decimals·unread, Reads};
+ghost use Rattle.wording.specs.Page.{page as page_page, write};
+ghost use Rattle.wording.specs.Decimals.{white, up as decimals_up, spaced as decimals_spaced, grown as decimals_grown, digit as decimals_digit, other as decimals_other, turn as decimals_turn, next, ended as decimals_ended, ends, unread as decimals_unread, Reads};
 ghost use Rattle.wording.specs.declared.Decoded.TheVariants.{Bytes};
 
 use crate::{Decoded, Reading, Scan, page};
@@ -11,7 +11,7 @@ const LARGEST: usize = 18446744073709551615;
 
 // Before a text's first character.
 pub fn unread() -> Reading
-    ensures { result ≡ Decimals·unread }
+    ensures { result ≡ decimals_unread }
 {
     Reading {
         said: Decoded::Bytes(Scan {
@@ -40,7 +40,7 @@ pub fn read(out: &mut [u8], before: Reading, piece: &[u8]) -> Reading
 // What a character does; after a fault nothing more is read.
 fn turn(out: &mut [u8], before: Reading, c: u8) -> Reading
     ensures said_value { result.said ≡ next c before.said }
-    ensures bytes_after { Page·page out.new result.bytes ≡ write (ends c before.said) (Page·page out.old before.bytes) }
+    ensures bytes_after { page_page out.new result.bytes ≡ write (ends c before.said) (page_page out.old before.bytes) }
 {
     let said = before.said;
     match said {
@@ -52,8 +52,8 @@ fn turn(out: &mut [u8], before: Reading, c: u8) -> Reading
 
 // A character where no fault was met: white space ends a number.
 fn character(out: &mut [u8], at: usize, scan: Scan, c: u8) -> Reading
-    ensures said_value { result.said ≡ Decimals·turn scan c }
-    ensures bytes_after { Page·page out.new result.bytes ≡ write (ends c (Bytes scan)) (Page·page out.old at) }
+    ensures said_value { result.said ≡ decimals_turn scan c }
+    ensures bytes_after { page_page out.new result.bytes ≡ write (ends c (Bytes scan)) (page_page out.old at) }
 {
     if is_white(c) {
         let n = ended(out, at, scan);
@@ -70,7 +70,7 @@ fn character(out: &mut [u8], at: usize, scan: Scan, c: u8) -> Reading
 
 // The byte that is complete, where a number is begun.
 fn ended(out: &mut [u8], at: usize, scan: Scan) -> usize
-    ensures { Page·page out.new result ≡ write (Decimals·ended scan) (Page·page out.old at) }
+    ensures { page_page out.new result ≡ write (decimals_ended scan) (page_page out.old at) }
 {
     if scan.digits == 0 {
         return at;
@@ -80,7 +80,7 @@ fn ended(out: &mut [u8], at: usize, scan: Scan) -> usize
 
 // Past white space no number is begun; past a line's end stands the next line.
 fn spaced(scan: Scan, c: u8) -> Scan
-    ensures { result ≡ Decimals·spaced scan c }
+    ensures { result ≡ decimals_spaced scan c }
 {
     if c == b'\n' {
         return Scan {
@@ -100,7 +100,7 @@ fn spaced(scan: Scan, c: u8) -> Scan
 
 // A digit makes the number longer; any other character is wrong.
 fn other(scan: Scan, c: u8) -> Decoded
-    ensures { result ≡ Decimals·other scan c }
+    ensures { result ≡ decimals_other scan c }
 {
     if b'0' <= c {
         if c <= b'9' {
@@ -114,7 +114,7 @@ fn other(scan: Scan, c: u8) -> Decoded
 // A digit; a number over 255 is wrong where it begins.
 fn digit(scan: Scan, c: u8) -> Decoded
     requires { (48 ≤ c) × (c ≤ 57) }
-    ensures { result ≡ Decimals·digit scan c }
+    ensures { result ≡ decimals_digit scan c }
 {
     let w = grown(scan.value, c);
     if w <= 255 {
@@ -131,14 +131,14 @@ fn digit(scan: Scan, c: u8) -> Decoded
 // The number begun, with a digit's character more.
 fn grown(v: u8, c: u8) -> usize
     requires { (48 ≤ c) × (c ≤ 57) }
-    ensures { result ≡ Decimals·grown v c }
+    ensures { result ≡ decimals_grown v c }
 {
     10 * page::wide(v) + page::wide(c - b'0')
 }
 
 // One more, as far as 64 bits go.
 fn up(n: usize) -> usize
-    ensures { result ≡ Decimals·up n }
+    ensures { result ≡ decimals_up n }
 {
     if n < LARGEST { n + 1 } else { n }
 }

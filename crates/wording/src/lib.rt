@@ -4,9 +4,9 @@
 #![tactic(auto)]
 
 ghost use Rattle.std.specs.Prelude.{◌≡◌, ◌-◌, ◌<◌, length};
-ghost use Rattle.wording.specs.Page.{page as Page·page, write};
-ghost use Rattle.wording.specs.Answers.{accepted_text, stands_text, refused_text, dots_text, here_text, around_text, sheet_text, certificate_text, first_at, operand as Answers·operand, facts_of, phrase_text, falls_text, fails_text, bytes_text, trouble_text};
-ghost use Rattle.wording.specs.Decimals.{unread as Decimals·unread, Reads};
+ghost use Rattle.wording.specs.Page.{page as page_page, write};
+ghost use Rattle.wording.specs.Answers.{accepted_text, stands_text, refused_text, dots_text, here_text, around_text, sheet_text, certificate_text, first_at, operand as answers_operand, facts_of, phrase_text, falls_text, fails_text, bytes_text, trouble_text};
+ghost use Rattle.wording.specs.Decimals.{unread as decimals_unread, Reads};
 
 use language::{Inferences, Work, refusal};
 use records::{phrase_kind, rows};
@@ -61,7 +61,7 @@ pub struct Reading {
 
 // Before a text's first character.
 pub fn unread() -> Reading
-    ensures { result ≡ Decimals·unread }
+    ensures { result ≡ decimals_unread }
 {
     decimals::unread()
 }
@@ -75,7 +75,7 @@ pub fn read_decimal(out: &mut [u8], before: Reading, piece: &[u8]) -> Reading
 
 // Bytes as they are, on the page out.
 pub fn copy(out: &mut [u8], at: usize, s: &[u8]) -> usize
-    ensures { Page·page out.new result ≡ write s.now (Page·page out.old at) }
+    ensures { page_page out.new result ≡ write s.now (page_page out.old at) }
 {
     page::copy(out, at, s)
 }
@@ -88,7 +88,7 @@ pub fn accepted(
     work: Work,
     inferences: Inferences,
 ) -> usize
-    ensures { Page·page out.new result ≡ write (accepted_text length work inferences) (Page·page out.old at) }
+    ensures { page_page out.new result ≡ write (accepted_text length work inferences) (page_page out.old at) }
 {
     template::fill(
         out,
@@ -107,7 +107,7 @@ pub fn stands(
     conclusion: usize,
     inferences: Inferences,
 ) -> usize
-    ensures { Page·page out.new result ≡ write (stands_text length conclusion inferences) (Page·page out.old at) }
+    ensures { page_page out.new result ≡ write (stands_text length conclusion inferences) (page_page out.old at) }
 {
     template::fill(
         out,
@@ -127,7 +127,7 @@ pub fn falls(
     number: usize,
     place: usize,
 ) -> usize
-    ensures { Page·page out.new result ≡ write (falls_text sheet.now certificate.now number place) (Page·page out.old at) }
+    ensures { page_page out.new result ≡ write (falls_text sheet.now certificate.now number place) (page_page out.old at) }
 {
     let k = refused(out, at, number);
     if refusal::BYTES_END <= number {
@@ -141,7 +141,7 @@ pub fn falls(
 
 // A refused evaluation: the refusal, and its place where that is in the sheet's bytes.
 pub fn fails(out: &mut [u8], at: usize, sheet: &[u8], number: usize, place: usize) -> usize
-    ensures { Page·page out.new result ≡ write (fails_text sheet.now number place) (Page·page out.old at) }
+    ensures { page_page out.new result ≡ write (fails_text sheet.now number place) (page_page out.old at) }
 {
     let k = refused(out, at, number);
     if refusal::BYTES_END <= number {
@@ -154,7 +154,7 @@ pub fn fails(out: &mut [u8], at: usize, sheet: &[u8], number: usize, place: usiz
 
 // A phrase as a place: its number, and its row in words. The names are those of the sheet's propositions.
 pub fn at_phrase(out: &mut [u8], at: usize, row: &[u32], names: &[u32], k: usize) -> usize
-    ensures { Page·page out.new result ≡ write (phrase_text row.now names.now k) (Page·page out.old at) }
+    ensures { page_page out.new result ≡ write (phrase_text row.now names.now k) (page_page out.old at) }
 {
     let facts = facts_of(row, names);
     let said = template::fill(out, at, b"at phrase 1: ", 0, &[0, k]);
@@ -164,7 +164,7 @@ pub fn at_phrase(out: &mut [u8], at: usize, row: &[u32], names: &[u32], k: usize
 
 // A certificate's bytes in decimal, on a line.
 pub fn in_decimal(out: &mut [u8], at: usize, certificate: &[u8]) -> usize
-    ensures { Page·page out.new result ≡ write (bytes_text certificate.now) (Page·page out.old at) }
+    ensures { page_page out.new result ≡ write (bytes_text certificate.now) (page_page out.old at) }
 {
     if certificate.len() == 0 {
         return page::words(out, at, b"\n", 0);
@@ -176,21 +176,21 @@ pub fn in_decimal(out: &mut [u8], at: usize, certificate: &[u8]) -> usize
 
 // What keeps a request from being answered, by its number, with the line and column of a fault.
 pub fn trouble(out: &mut [u8], at: usize, which: usize, line: usize, column: usize) -> usize
-    ensures { Page·page out.new result ≡ write (trouble_text which line column) (Page·page out.old at) }
+    ensures { page_page out.new result ≡ write (trouble_text which line column) (page_page out.old at) }
 {
     template::fill(out, at, &tables::TROUBLES, which, &[0, line, column, 255])
 }
 
 // A refusal's number and its words.
 fn refused(out: &mut [u8], at: usize, number: usize) -> usize
-    ensures { Page·page out.new result ≡ write (refused_text number) (Page·page out.old at) }
+    ensures { page_page out.new result ≡ write (refused_text number) (page_page out.old at) }
 {
     template::fill(out, at, b"REFUSED 1: 9\n", 0, &[0, number])
 }
 
 // A place in the sheet's bytes.
 fn in_sheet(out: &mut [u8], at: usize, s: &[u8], place: usize) -> usize
-    ensures { Page·page out.new result ≡ write (sheet_text s.now place) (Page·page out.old at) }
+    ensures { page_page out.new result ≡ write (sheet_text s.now place) (page_page out.old at) }
 {
     let said = template::fill(out, at, b"at byte 1 of the sheet:", 0, &[0, place]);
     let shown = around(out, said, s, place);
@@ -199,7 +199,7 @@ fn in_sheet(out: &mut [u8], at: usize, s: &[u8], place: usize) -> usize
 
 // A place in a certificate's bytes.
 fn in_certificate(out: &mut [u8], at: usize, s: &[u8], place: usize) -> usize
-    ensures { Page·page out.new result ≡ write (certificate_text s.now place) (Page·page out.old at) }
+    ensures { page_page out.new result ≡ write (certificate_text s.now place) (page_page out.old at) }
 {
     let said = template::fill(out, at, b"at byte 1 of the certificate:", 0, &[0, place]);
     let shown = around(out, said, s, place);
@@ -208,7 +208,7 @@ fn in_certificate(out: &mut [u8], at: usize, s: &[u8], place: usize) -> usize
 
 // The bytes around a place, at most eight on either side, the one there marked; past the last byte stands the end.
 fn around(out: &mut [u8], at: usize, s: &[u8], place: usize) -> usize
-    ensures { Page·page out.new result ≡ write (around_text s.now place) (Page·page out.old at) }
+    ensures { page_page out.new result ≡ write (around_text s.now place) (page_page out.old at) }
 {
     let from = start(place);
     let begun = dots(out, at, 8 < place);
@@ -222,7 +222,7 @@ fn around(out: &mut [u8], at: usize, s: &[u8], place: usize) -> usize
 // The byte at a place, marked, and those after it.
 fn here(out: &mut [u8], at: usize, s: &[u8], place: usize) -> usize
     requires { place < length s.now }
-    ensures { Page·page out.new result ≡ write (here_text s.now place) (Page·page out.old at) }
+    ensures { page_page out.new result ≡ write (here_text s.now place) (page_page out.old at) }
 {
     let marked = template::fill(out, at, b" [1]", 0, &[0, page::wide(s[place])]);
     let after = page::bytes(out, marked, s, place + 1, 8);
@@ -231,7 +231,7 @@ fn here(out: &mut [u8], at: usize, s: &[u8], place: usize) -> usize
 
 // A mark where something is left out.
 fn dots(out: &mut [u8], at: usize, more: bool) -> usize
-    ensures { Page·page out.new result ≡ write (dots_text more) (Page·page out.old at) }
+    ensures { page_page out.new result ≡ write (dots_text more) (page_page out.old at) }
 {
     if more {
         return page::words(out, at, b" ..", 0);
@@ -268,7 +268,7 @@ fn facts_of(row: &[u32], names: &[u32]) -> [usize; rows::PHRASE]
 
 // A row's first operand: a proposition by its number in the sheet, the first of those equal to it; any other as it is.
 fn operand(row: &[u32], names: &[u32]) -> usize
-    ensures { result ≡ Answers·operand row.now names.now }
+    ensures { result ≡ answers_operand row.now names.now }
 {
     if words::at(row, 0) == phrase_kind::PROPOSITION {
         return first_at(names, words::at(row, 1));
