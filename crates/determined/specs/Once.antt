@@ -35,7 +35,7 @@ module _ {n : ℕ} (ps : List (ParamKind n)) (r : ResultKind n) where
   abbrev pub OnceAsked : In n ps → Out n ps r → Type 0
   OnceAsked Asked Learnt = AnyTwo Asked Learnt (λ κs a q z z' ws ws'. (z ≡ z') × (ws ≡ ws'))
 
--- A struct that holds a reference has no `Learnt`: whoever calls such a function is proved by hand, from the clause of its contract itself. Both clauses are seen of the same resource.
+-- The same from the clause of the contract itself, for functions over a struct that holds a reference. Both clauses are seen of the same resource.
 unfoldable pub OnceHeld : (T : Ended) → ((M : Type 1) (𝓤 : Ura M) (𝓛 : Logic 𝓤) → (Memory → SProp 𝓤) → (Routine → Fun 𝓤) → Clauses 𝓤 T) → Type 2
 OnceHeld T clauses =
     (M : Type 1) (𝓤 : Ura M) (𝓛 : Logic 𝓤) (mem : Memory → SProp 𝓤) (run : Routine → Fun 𝓤) (κs : Lfts T.signature.lifetimes) (a : Args T.signature κs)
