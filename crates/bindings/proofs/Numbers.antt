@@ -1,4 +1,5 @@
 -- Values from their numbers, and a chain followed by one binding.
+use Rattle.std.specs.Prelude.{Some, None}
 use mathlib.Core.Path.{◌≡◌, refl, ◌∙◌}
 use mathlib.Core.List.{List, [], ◌∷◌}
 use Prim.Native.Nat.{ℕ, zero, suc, ◌+◌, ◌*◌, ◌-◌, ◌≤◌, ◌<◌}
@@ -9,33 +10,16 @@ use lib.Seq.{sets}
 use Rattle.words.proofs.Runs.{before, within}
 use Rattle.bindings.specs.declared.Value.{Value}
 use Rattle.bindings.specs.declared.Value.TheVariants.{Prop, Constructor, Rule, Function, Method}
-use Rattle.bindings.specs.declared.Found.TheVariants.{Bound, Free}
 use Rattle.bindings.specs.Numbers.{closure_of, value_of, numbers_of, value_at, next_at, first, beyond, found, Kept}
 
-module _ (a b : ℕ) where
-  pub value_0 : (k : ℕ) → k ≡ 0 → Prop a ≡ value_of k a b
-  unfolding value_of
-  value_0 k e = rw e
-
-  pub value_1 : (k : ℕ) → k ≡ 1 → Constructor a ≡ value_of k a b
-  unfolding value_of
-  value_1 k e = rw e
-
-  pub value_2 : (k : ℕ) → k ≡ 2 → Rule a ≡ value_of k a b
-  unfolding value_of
-  value_2 k e = rw e
-
-  pub value_3 : (k : ℕ) → k ≡ 3 → Function (closure_of a b) ≡ value_of k a b
-  unfolding value_of
-  value_3 k e = rw e
-
-  pub value_4 : (k : ℕ) → (k ≡ 0 → ⊥) → (k ≡ 1 → ⊥) → (k ≡ 2 → ⊥) → (k ≡ 3 → ⊥) → Method (closure_of a b) ≡ value_of k a b
-  unfolding value_of
-  value_4 zero e f g h = absurd (e refl)
-  value_4 (suc zero) e f g h = absurd (f refl)
-  value_4 (suc (suc zero)) e f g h = absurd (g refl)
-  value_4 (suc (suc (suc zero))) e f g h = absurd (h refl)
-  value_4 (suc (suc (suc (suc k)))) e f g h = refl
+-- a kind that is none of the first four is a method's
+pub value_4 : (a b k : ℕ) → (k ≡ 0 → ⊥) → (k ≡ 1 → ⊥) → (k ≡ 2 → ⊥) → (k ≡ 3 → ⊥) → Method (closure_of a b) ≡ value_of k a b
+unfolding value_of
+value_4 a b zero e f g h = absurd (e refl)
+value_4 a b (suc zero) e f g h = absurd (f refl)
+value_4 a b (suc (suc zero)) e f g h = absurd (g refl)
+value_4 a b (suc (suc (suc zero))) e f g h = absurd (h refl)
+value_4 a b (suc (suc (suc (suc k)))) e f g h = refl
 
 -- a binding stored as number n
 
@@ -82,13 +66,13 @@ kept_then t t' t'' n n' h k l i r = l i (omega arith) ∙ k i r
 -- one step along a chain
 
 module _ (t : List ℕ) where
-  pub found_end : (x i : ℕ) → x ≤ 0 → Free ≡ found t x i
+  pub found_end : (x i : ℕ) → x ≤ 0 → None ≡ found t x i
   unfolding found first beyond
   found_end zero zero h = refl
   found_end zero (suc i) h = refl
   found_end (suc x) i h = absurd (omega arith)
 
-  pub found_here : (x i : ℕ) → 0 < x → i ≡ 0 → Bound (value_at t (x - 1)) ≡ found t x i
+  pub found_here : (x i : ℕ) → 0 < x → i ≡ 0 → Some (value_at t (x - 1)) ≡ found t x i
   unfolding found first
   found_here zero i h e = absurd (omega arith)
   found_here (suc x) i h e = rw (e, sub-one)

@@ -1,11 +1,9 @@
 -- Values and bindings as numbers, and a search along a chain of them.
-use Rattle.std.specs.Prelude.{◌≡◌, List, [], ◌∷◌, ℕ, zero, suc, ◌+◌, ◌*◌, ◌<◌, ◌^◌, get_or}
+use Rattle.std.specs.Prelude.{◌≡◌, List, [], ◌∷◌, ℕ, zero, suc, ◌+◌, ◌*◌, ◌<◌, ◌^◌, get_or, Option, Some, None}
 use Rattle.bindings.specs.declared.Closure.{Closure}
 use Rattle.bindings.specs.declared.Value.{Value}
 use Rattle.bindings.specs.declared.Value.TheVariants.{Prop, Constructor, Rule, Function, Method}
 use Rattle.bindings.specs.declared.Binding.{Binding}
-use Rattle.bindings.specs.declared.Found.{Found}
-use Rattle.bindings.specs.declared.Found.TheVariants.{Bound, Free}
 
 abbrev pub closure_of : ℕ → ℕ → Closure
 closure_of a b = record { phrase = a; env = b }
@@ -56,15 +54,15 @@ abbrev pub Kept : List ℕ → List ℕ → ℕ → Type 0
 Kept t t' n = (i : ℕ) → i < 4 * n → get_or t' i 0 ≡ get_or t i 0
 
 -- the k-th value along the chain that starts at x
-unfoldable pub first : List ℕ → ℕ → Found
-first t zero = Free
-first t (suc j) = Bound (value_at t j)
+unfoldable pub first : List ℕ → ℕ → Option Value
+first t zero = None
+first t (suc j) = Some (value_at t j)
 
-unfoldable pub beyond : (ℕ → Found) → List ℕ → ℕ → Found
-beyond f t zero = Free
+unfoldable pub beyond : (ℕ → Option Value) → List ℕ → ℕ → Option Value
+beyond f t zero = None
 beyond f t (suc j) = f (next_at t j)
 
-unfoldable pub found : List ℕ → ℕ → ℕ → Found
+unfoldable pub found : List ℕ → ℕ → ℕ → Option Value
 unfolding first beyond
 found t x zero = first t x
 found t x (suc k) = beyond (λ y. found t y k) t x

@@ -1,6 +1,6 @@
 -- How numbers stand for values and bindings: over the phrases' rows, the propositions fs that the table's numbers stand for, and the first n bindings of
 -- the buffer t. What is said of a closure that binds itself ends, as the closure is the value of the binding that its own bindings start at.
-use Rattle.std.specs.Prelude.{◌≡◌, List, true, false, ℕ, suc, ◌*◌, ◌≤◌, ◌<◌, length}
+use Rattle.std.specs.Prelude.{◌≡◌, List, true, false, ℕ, suc, ◌*◌, ◌≤◌, ◌<◌, length, Option, Some, None}
 use Rattle.language.specs.Refusals.{no_binding}
 use Rattle.language.specs.Form.{Form}
 use Rattle.language.specs.Syntax.{Sort, function, method}
@@ -10,8 +10,6 @@ use Rattle.records.specs.Rows.{cell}
 use Rattle.bindings.specs.declared.Closure.{Closure}
 use Rattle.bindings.specs.declared.Value.{Value}
 use Rattle.bindings.specs.declared.Value.TheVariants.{Prop, Constructor, Rule, Function, Method}
-use Rattle.bindings.specs.declared.Found.{Found}
-use Rattle.bindings.specs.declared.Found.TheVariants.{Bound, Free}
 use Rattle.bindings.specs.Numbers.{value_at, next_at}
 
 -- the number p names the proposition P
@@ -69,9 +67,9 @@ under (Function f) = f.env
 under (Method f) = f.env
 
 -- what a search along a chain finds is what `lookup` gives, or both refuse
-unfoldable pub Looks : List (List ℕ) → List Form → List ℕ → ℕ → Found → Out Val → ℕ → ℕ → Type 0
+unfoldable pub Looks : List (List ℕ) → List Form → List ℕ → ℕ → Option Value → Out Val → ℕ → ℕ → Type 0
 unfolding Stands
-Looks rows fs t n (Bound v) (out X w') k w = Stands rows fs t n X v × (w' ≡ w)
-Looks rows fs t n (Bound v) (stop a b) k w = ⊥
-Looks rows fs t n Free (out X w') k w = ⊥
-Looks rows fs t n Free (stop a b) k w = (a ≡ no_binding) × (b ≡ k)
+Looks rows fs t n (Some v) (out X w') k w = Stands rows fs t n X v × (w' ≡ w)
+Looks rows fs t n (Some v) (stop a b) k w = ⊥
+Looks rows fs t n None (out X w') k w = ⊥
+Looks rows fs t n None (stop a b) k w = (a ≡ no_binding) × (b ≡ k)

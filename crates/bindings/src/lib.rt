@@ -38,15 +38,8 @@ pub struct Binding {
     pub next: usize,
 }
 
-// What a search along a chain comes to.
-#[derive(Drop)]
-pub enum Found {
-    Bound(Value),
-    Free,
-}
-
-// The k-th value along a chain; the innermost is 0.
-pub fn lookup(t: &[u32], env: usize, k: usize) -> Found
+// The k-th value along a chain, if so many are bound; the innermost is 0.
+pub fn lookup(t: &[u32], env: usize, k: usize) -> Option<Value>
     requires { Linked t.now env }
     ensures { result ≡ found t.now env k }
 {
@@ -54,14 +47,13 @@ pub fn lookup(t: &[u32], env: usize, k: usize) -> Found
     let mut i = k;
     while 0 < e {
         let b = load(t, e - 1);
-        let value = b.value;
         if i == 0 {
-            return Found::Bound(value);
+            return Some(b.value);
         }
         e = b.next;
-        i = i - 1;
+        i -= 1;
     }
-    Found::Free
+    None
 }
 
 // The binding stored as number n. There must be room for it.
@@ -69,14 +61,13 @@ pub fn push(t: &mut [u32], n: usize, b: Binding)
     requires { (4 * n + 4 ≤ length t.old) × Small b }
     ensures { t.new ≡ sets t.old (4 * n) (numbers b) }
 {
-    let next = b.next;
-    let value = b.value;
+    let Binding { value, next } = b;
     match value {
-        Value::Prop(p) => words::put4(t, WIDTH * n, tag::PROP, p, 0, next),
-        Value::Constructor(c) => words::put4(t, WIDTH * n, tag::CONSTRUCTOR, c, 0, next),
-        Value::Rule(r) => words::put4(t, WIDTH * n, tag::RULE, r, 0, next),
-        Value::Function(f) => words::put4(t, WIDTH * n, tag::FUNCTION, f.phrase, f.env, next),
-        Value::Method(m) => words::put4(t, WIDTH * n, tag::METHOD, m.phrase, m.env, next),
+        Value::Prop(p) => words::put_all(t, WIDTH * n, &[tag::PROP, p, 0, next]),
+        Value::Constructor(c) => words::put_all(t, WIDTH * n, &[tag::CONSTRUCTOR, c, 0, next]),
+        Value::Rule(r) => words::put_all(t, WIDTH * n, &[tag::RULE, r, 0, next]),
+        Value::Function(f) => words::put_all(t, WIDTH * n, &[tag::FUNCTION, f.phrase, f.env, next]),
+        Value::Method(m) => words::put_all(t, WIDTH * n, &[tag::METHOD, m.phrase, m.env, next]),
     }
 }
 
@@ -89,10 +80,8 @@ pub fn load(t: &[u32], j: usize) -> Binding
     let a = words::at(t, WIDTH * j + 1);
     let b = words::at(t, WIDTH * j + 2);
     let next = words::at(t, WIDTH * j + 3);
-    Binding {
-        value: value_of(kind, a, b),
-        next: next,
-    }
+    let value = value_of(kind, a, b);
+    Binding { value, next }
 }
 
 // The chain that a value's arguments are bound on: a closure's own, else the empty one.
@@ -100,11 +89,8 @@ pub fn scope(v: Value) -> usize
     ensures { result ≡ under v }
 {
     match v {
-        Value::Prop(p) => 0,
-        Value::Constructor(c) => 0,
-        Value::Rule(r) => 0,
-        Value::Function(f) => f.env,
-        Value::Method(m) => m.env,
+        Value::Prop(_) | Value::Constructor(_) | Value::Rule(_) => 0,
+        Value::Function(f) | Value::Method(f) => f.env,
     }
 }
 
@@ -112,17 +98,11 @@ pub fn scope(v: Value) -> usize
 fn value_of(kind: usize, a: usize, b: usize) -> Value
     ensures { result ≡ value_of kind a b }
 {
-    if kind == tag::PROP {
-        return Value::Prop(a);
+    match kind {
+        tag::PROP => Value::Prop(a),
+        tag::CONSTRUCTOR => Value::Constructor(a),
+        tag::RULE => Value::Rule(a),
+        tag::FUNCTION => Value::Function(Closure { phrase: a, env: b }),
+        _ => Value::Method(Closure { phrase: a, env: b }),
     }
-    if kind == tag::CONSTRUCTOR {
-        return Value::Constructor(a);
-    }
-    if kind == tag::RULE {
-        return Value::Rule(a);
-    }
-    if kind == tag::FUNCTION {
-        return Value::Function(Closure { phrase: a, env: b });
-    }
-    Value::Method(Closure { phrase: a, env: b })
 }

@@ -2,7 +2,9 @@
 // for so many bytes; a certificate is printed in decimal and then checked alone against the sheet. A write that fails ends the program with its error.
 #![tactic(auto)]
 
-use language::{Checked, Evaluated, Inferences, Work};
+ghost use Rattle.std.specs.Prelude.{◌≤◌, length};
+
+use language::{Accepted, Refusal};
 use std::io;
 
 fn main(rt: HostRuntime) -> io::Result<()> {
@@ -244,39 +246,29 @@ fn evaluated(rt: &impl Print, out: &mut [u8], sheet: &[u8], budget: usize) -> io
         &mut tokens,
         out,
     ) {
-        Evaluated::Accepted(n, work, inferences) => accepted(
-            rt,
-            sheet,
-            &out[..n],
-            work,
-            inferences,
-        ),
-        Evaluated::Refused(why, place) => refused(rt, b" refused,", why, place),
+        Ok(a) => accepted(rt, sheet, out, a),
+        Err(r) => refused(rt, " refused,", r),
     }
 }
 
-// A certificate, and its check.
-fn accepted(
-    rt: &impl Print,
-    sheet: &[u8],
-    bytes: &[u8],
-    work: Work,
-    inferences: Inferences,
-) -> io::Result<()> {
-    labelled(rt, b" accepted, length", bytes.len())?;
-    labelled(rt, b", work", work.0)?;
-    labelled(rt, b", inferences", inferences.0)?;
-    certificate(rt, bytes)?;
-    checked(rt, sheet, bytes)
+// A certificate, which stands at the front of the output, and its check.
+fn accepted(rt: &impl Print, sheet: &[u8], out: &[u8], a: Accepted) -> io::Result<()>
+    requires { a.length ≤ length out.now }
+{
+    let n = a.length;
+    print!(rt;
+        " accepted, length {n}, work {}, inferences {}",
+        a.work.0, a.inferences.0
+    )?;
+    certificate(rt, &out[..n])?;
+    checked(rt, sheet, &out[..n])
 }
 
 // The certificate's bytes in decimal, on a line of their own.
 fn certificate(rt: &impl Print, bytes: &[u8]) -> io::Result<()> {
-    rt.write_all(b"\n ")?;
-    let mut i = 0;
-    while i < bytes.len() {
-        labelled(rt, b"", wide(bytes[i]))?;
-        i += 1;
+    print!(rt; "\n ")?;
+    for b in bytes {
+        print!(rt; " {b}")?;
     }
     Ok(())
 }
@@ -297,31 +289,18 @@ fn checked(rt: &impl Print, sheet: &[u8], certificate: &[u8]) -> io::Result<()> 
         &mut phrases,
         &mut base,
     ) {
-        Checked::Stands(conclusion, inferences) => {
-            labelled(rt, b"\n  stands, conclusion", conclusion)?;
-            labelled(rt, b", inferences", inferences.0)?;
-            rt.write_all(b"\n")
+        Ok(c) => {
+            println!(rt;
+                "\n  stands, conclusion {}, inferences {}",
+                c.conclusion, c.inferences.0
+            )
         }
-        Checked::Falls(why, place) => refused(rt, b"\n  falls,", why, place),
+        Err(r) => refused(rt, "\n  falls,", r),
     }
 }
 
 // A refusal's number and place.
-fn refused(rt: &impl Print, what: &[u8], why: usize, place: usize) -> io::Result<()> {
-    rt.write_all(what)?;
-    labelled(rt, b" number", why)?;
-    labelled(rt, b" at", place)?;
-    rt.write_all(b"\n")
-}
-
-// A byte's number.
-fn wide(b: u8) -> usize {
-    b as usize
-}
-
-// A label, a blank and a number.
-fn labelled(rt: &impl Print, label: &[u8], n: usize) -> io::Result<()> {
-    rt.write_all(label)?;
-    rt.write_all(b" ")?;
-    rt.print(n)
+fn refused(rt: &impl Print, what: &str, r: Refusal) -> io::Result<()> {
+    let Refusal(why, place) = r;
+    println!(rt; "{what} number {} at {place}", why.number())
 }

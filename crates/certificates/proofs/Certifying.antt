@@ -1,11 +1,10 @@
 -- The whole certificate: its four parts one after another, measured first and then written where there is room.
 use Prim.Native.Nat.{ℕ, ◌≤◌, ◌<◌}
-use mathlib.Core.Path.{◌≡◌, refl, sym, ap, subst, ◌∙◌}
+use mathlib.Core.Path.{◌≡◌, refl, sym, subst, ◌∙◌}
 use mathlib.Core.Bool.{Bool, true, false}
-use mathlib.Core.List.{List, ◌++◌}
+use mathlib.Core.List.{List, [], ◌++◌}
 use native.Mathlib.Omega.{arith}
 use lib.ListN.{length}
-use lib.Seq.{sets}
 use borrow.Author.Tests.{le-leb, lt-leb}
 use Rattle.language.specs.Form.{Form}
 use Rattle.language.specs.Numbers.{groups, pick}
@@ -14,10 +13,10 @@ use Rattle.language.specs.Doors.{fronted}
 use Rattle.theorems.proofs.Listing.{listing_concludes}
 use Rattle.words.proofs.Runs.{front_sets}
 use Rattle.certificates.specs.declared.Needed.{Needed}
-use Rattle.certificates.specs.declared.Written.TheVariants.{Done, Short}
-use Rattle.certificates.specs.Emitted.{laid, Fits, Emitted, placed, Placed}
+use Rattle.std.specs.Prelude.{Some, None}
+use Rattle.certificates.specs.Emitted.{Fits, Emitted, placed, Placed}
 use Rattle.certificates.specs.Told.{Recording, Records, Proving, Proofs, Emitting, Emits}
-use Rattle.certificates.specs.Certified.{Writing, Orders, Certified, Writes}
+use Rattle.certificates.specs.Certified.{Writing, Orders, Writes}
 use Rattle.certificates.proofs.Emitting.{groups_few, Amid, amid_start, amid_more, amid_fits, amid_fits_last, amid_last}
 use Rattle.certificates.proofs.Marking.{few}
 use Rattle.certificates.proofs.Placing.{placing, placed_is, is_placed}
@@ -107,7 +106,7 @@ module _ (forms : List ℕ) (n : ℕ) (tokens : List ℕ) (m conclusion : ℕ) (
 
 -- measured, then written or not
 module _ (forms : List ℕ) (n : ℕ) (tokens : List ℕ) (m conclusion : ℕ) (t₀ t : List ℕ) (r : Needed) (O : Orders forms n tokens m conclusion t₀ t r) where
-  abbrev pub emitting : (b : Bool) (out : List ℕ) (x : Writing forms n tokens m conclusion t₀) → Fits b 0 (certificate x.derived) out → Emitting forms n tokens m conclusion t r.count b out
+  abbrev emitting : (b : Bool) (out : List ℕ) (x : Writing forms n tokens m conclusion t₀) → Fits b 0 (certificate x.derived) out → Emitting forms n tokens m conclusion t r.count b out
   emitting b out x f = record {
     trees = x.trees;
     derived = x.derived;
@@ -119,44 +118,29 @@ module _ (forms : List ℕ) (n : ℕ) (tokens : List ℕ) (m conclusion : ℕ) (
     fits = f;
   }
 
-  pub measuring : (out : List ℕ) → Writing forms n tokens m conclusion t₀ → Emitting forms n tokens m conclusion t r.count false out
-  unfolding Fits
-  measuring out x = emitting false out x tt
+  module _ (k : ℕ) (E : Emits forms n tokens m conclusion t r.count false [] [] k) (out₀ : List ℕ) where
+    length_is : (x : Writing forms n tokens m conclusion t₀) → k ≡ length (certificate x.derived)
+    length_is x = omega (arith, (E.emitted (emitting false [] x tt)).past)
 
-  module _ (out₀ out₁ : List ℕ) (k : ℕ) (E : Emits forms n tokens m conclusion t r.count false out₀ out₁ k) where
-    module _ (x : Writing forms n tokens m conclusion t₀) where
-      measured : Emitted false out₀ 0 (certificate x.derived) out₁ k
-      unfolding Fits
-      measured = E.emitted (emitting false out₀ x tt)
+    pub writing : k ≤ length out₀ → Writing forms n tokens m conclusion t₀ → Emitting forms n tokens m conclusion t r.count true out₀
+    writing h x = emitting true out₀ x (omega (arith, length_is x))
 
-      length_is : k ≡ length (certificate x.derived)
-      length_is = omega (arith, measured.past)
+    pub written : k ≤ length out₀ → (out : List ℕ) (s : ℕ) → Emits forms n tokens m conclusion t r.count true out₀ out s → Writes forms n tokens m conclusion t₀ out₀ (Some (record { length = k; inferences = r.rules })) out
+    unfolding fronted pick
+    written h out s F = record {
+      certified = λ x.
+          let room : length (certificate x.derived) ≤ length out₀ = omega (arith, length_is x) in
+          let e = F.emitted (emitting true out₀ x (omega (arith, room))) in
+          record {
+            answer = rw (le-leb _ _ room, length_is x, O.counts x) refl;
+            output = rw (le-leb _ _ room) (e.output ∙ front_sets (certificate x.derived) out₀ room);
+          };
+    }
 
-      untouched : out₁ ≡ out₀
-      unfolding laid
-      untouched = measured.output
-
-    pub writing : k ≤ length out₁ → Writing forms n tokens m conclusion t₀ → Emitting forms n tokens m conclusion t r.count true out₁
-    unfolding Fits
-    writing h x = emitting true out₁ x (omega (arith, length_is x))
-
-    pub written : k ≤ length out₁ → (out₂ : List ℕ) (s : ℕ) → Emits forms n tokens m conclusion t r.count true out₁ out₂ s → Writes forms n tokens m conclusion t₀ out₀ (Done k r.rules) out₂
-    unfolding Fits laid fronted pick
-    written h out₂ s F = record { certified = λ x. go x (F.emitted (emitting true out₁ x (omega (arith, length_is x)))) }
-      where
-        go : (x : Writing forms n tokens m conclusion t₀) → Emitted true out₁ 0 (certificate x.derived) out₂ s → Certified x.derived out₀ (Done k r.rules) out₂
-        go x e =
-            let room : length (certificate x.derived) ≤ length out₀ = omega (arith, length_is x, ap length (untouched x)) in
-            let stored = e.output ∙ ap (λ (o : List ℕ). sets o 0 (certificate x.derived)) (untouched x) ∙ front_sets (certificate x.derived) out₀ room in
-            record {
-              answer = rw (le-leb _ _ room, length_is x, O.counts x) refl;
-              output = rw (le-leb _ _ room) stored;
-            }
-
-    pub too_short : length out₁ < k → Writes forms n tokens m conclusion t₀ out₀ Short out₁
+    pub too_short : length out₀ < k → Writes forms n tokens m conclusion t₀ out₀ None out₀
     unfolding pick
     too_short h = record {
       certified = λ x.
-          let lack : length out₀ < length (certificate x.derived) = omega (arith, length_is x, ap length (untouched x)) in
-          record { answer = rw (lt-leb _ _ lack) refl; output = rw (lt-leb _ _ lack) (untouched x) };
+          let lack : length out₀ < length (certificate x.derived) = omega (arith, length_is x) in
+          record { answer = rw (lt-leb _ _ lack) refl; output = rw (lt-leb _ _ lack) refl };
     }

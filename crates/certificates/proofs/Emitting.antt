@@ -24,17 +24,14 @@ groups_few v = go (ltb v 128) refl (ltb v 16384) refl
 
 -- no bytes change nothing, and bytes after bytes are one run
 laid_none : (w : Bool) (out : List ℕ) (at : ℕ) → laid w out at [] ≡ out
-unfolding laid
 laid_none true out at = refl
 laid_none false out at = refl
 
 laid_laid : (w : Bool) (out : List ℕ) (at : ℕ) (xs ys : List ℕ) → laid w (laid w out at xs) (at + length xs) ys ≡ laid w out at (xs ++ ys)
-unfolding laid
 laid_laid true out at xs ys = sets_sets xs ys out at
 laid_laid false out at xs ys = refl
 
 laid_long : (w : Bool) (out : List ℕ) (at : ℕ) (xs : List ℕ) → length (laid w out at xs) ≡ length out
-unfolding laid
 laid_long true out at xs = length-sets out at xs
 laid_long false out at xs = refl
 
@@ -71,7 +68,6 @@ module _ {w : Bool} {out₀ : List ℕ} {at₀ : ℕ} {whole : List ℕ} where
 
 -- room for the whole is room for the next part
 fits_by : (w : Bool) (a b : ℕ) (xs ys o p : List ℕ) → (a + length xs ≤ length o → b + length ys ≤ length p) → Fits w a xs o → Fits w b ys p
-unfolding Fits
 fits_by true a b xs ys o p f h = f h
 fits_by false a b xs ys o p f h = tt
 

@@ -1,5 +1,5 @@
 -- What writing a certificate asks and what it answers.
-use Rattle.std.specs.Prelude.{ℕ, ◌*◌, ◌≤◌, ◌≡◌, List, length, take, leb}
+use Rattle.std.specs.Prelude.{ℕ, ◌*◌, ◌≤◌, ◌≡◌, List, length, take, leb, Option, Some, None}
 use Rattle.language.specs.Form.{Form}
 use Rattle.language.specs.Numbers.{pick}
 use Rattle.language.specs.Plain.{inferences}
@@ -11,7 +11,6 @@ use Rattle.bindings.specs.Stands.{Is}
 use Rattle.tokens.specs.Tells.{Tells}
 use Rattle.certificates.specs.declared.Needed.{Needed}
 use Rattle.certificates.specs.declared.Written.{Written}
-use Rattle.certificates.specs.declared.Written.TheVariants.{Done, Short}
 use Rattle.certificates.specs.Marks.{Ready}
 
 -- the first n words stand for trees, the first m tokens tell a proof over them, and `conclusion` is its conclusion's number; room to list them all
@@ -31,11 +30,11 @@ pub record Orders (forms : List ℕ) (n : ℕ) (tokens : List ℕ) (m conclusion
   pub lists : (x : Writing forms n tokens m conclusion t₀) → Ready forms n x.trees (listing x.derived) t r.count
   pub counts : (x : Writing forms n tokens m conclusion t₀) → r.rules.0 ≡ inferences x.derived.proof
 
--- the certificate of d in front of the output, its length and its inferences; or, where the output is shorter, nothing
-pub record Certified (d : Derived) (out₀ : List ℕ) (r : Written) (out : List ℕ) : Type 0 where
-  pub answer : r ≡ pick (leb (length (certificate d)) (length out₀)) (Done (length (certificate d)) (record { 0 = inferences d.proof })) Short
+-- the certificate of d in front of the output, its length and its inferences; or, where the output is shorter, none
+pub record Certified (d : Derived) (out₀ : List ℕ) (r : Option Written) (out : List ℕ) : Type 0 where
+  pub answer : r ≡ pick (leb (length (certificate d)) (length out₀)) (Some (record { length = length (certificate d); inferences = record { 0 = inferences d.proof } })) None
   pub output : out ≡ pick (leb (length (certificate d)) (length out₀)) (fronted (certificate d) out₀) out₀
 
 -- whatever the words and tokens tell is certified so
-pub record Writes (forms : List ℕ) (n : ℕ) (tokens : List ℕ) (m conclusion : ℕ) (t out₀ : List ℕ) (r : Written) (out : List ℕ) : Type 0 where
+pub record Writes (forms : List ℕ) (n : ℕ) (tokens : List ℕ) (m conclusion : ℕ) (t out₀ : List ℕ) (r : Option Written) (out : List ℕ) : Type 0 where
   pub certified : (x : Writing forms n tokens m conclusion t) → Certified x.derived out₀ r out

@@ -7,12 +7,12 @@ use Rattle.forms.specs.Word.{kind, left, right}
 use Rattle.certificates.specs.declared.Head.{Head}
 
 -- the output once bytes are written at a place; as it was where they are only measured
-unfoldable pub laid : Bool → List ℕ → ℕ → List ℕ → List ℕ
+abbrev pub laid : Bool → List ℕ → ℕ → List ℕ → List ℕ
 laid true out at bytes = sets out at bytes
 laid false out at bytes = out
 
 -- what is written must have room; what is measured needs none
-unfoldable pub Fits : Bool → ℕ → List ℕ → List ℕ → Type 0
+abbrev pub Fits : Bool → ℕ → List ℕ → List ℕ → Type 0
 Fits true at bytes out = at + length bytes ≤ length out
 Fits false at bytes out = Unit {0}
 

@@ -11,13 +11,16 @@ ghost use Rattle.certificates.specs.Emitted.{Fits, Emitted, placed, Placed, word
 ghost use Rattle.certificates.specs.Told.{Telling, Needs, Recording, Records, Proving, Proofs, Emitting, Emits};
 ghost use Rattle.certificates.specs.Certified.{Writing, Orders, Writes};
 
-use language::{Inferences, node};
+mod sink;
 
-// The certificate's length and its inferences; or the output is too short, and untouched.
+use language::{Inferences, node};
+use sink::{Measure, Sink, Writer};
+
+// A certificate that is written: its length and its inferences.
 #[derive(Drop)]
-pub enum Written {
-    Done(usize, Inferences),
-    Short,
+pub struct Written {
+    pub length: usize,
+    pub inferences: Inferences,
 }
 
 // How many propositions are listed, and the proof's inferences.
@@ -36,6 +39,7 @@ struct Head {
 }
 
 // The certificate of the proof that the first m tokens tell, over the first n words of the table, in front of the output.
+// None says that the output is too short for it, and untouched.
 // The listing is scratch: what it holds afterwards is not fixed, and its caller wipes it.
 pub fn write(
     forms: &[u32],
@@ -45,13 +49,14 @@ pub fn write(
     conclusion: usize,
     listing: &mut [u32],
     out: &mut [u8],
-) -> Written
+) -> Option<Written>
     requires { Writing forms.now n tokens.now m conclusion listing.old }
     ensures { Writes forms.now n tokens.now m conclusion listing.old out.old result out.new }
 {
     let needed = order(listing, forms, n, tokens, m, conclusion);
-    let length = emit(
-        out,
+    let mut measure = Measure { length: 0 };
+    emit(
+        &mut measure,
         listing,
         needed.count,
         forms,
@@ -59,24 +64,26 @@ pub fn write(
         tokens,
         m,
         conclusion,
-        false,
     );
-    if length <= out.len() {
-        emit(
-            out,
-            listing,
-            needed.count,
-            forms,
-            n,
-            tokens,
-            m,
-            conclusion,
-            true,
-        );
-        let rules = needed.rules;
-        return Written::Done(length, rules);
+    let length = measure.length;
+    if out.len() < length {
+        return None;
     }
-    Written::Short
+    let mut writer = Writer { out, at: 0 };
+    emit(
+        &mut writer,
+        listing,
+        needed.count,
+        forms,
+        n,
+        tokens,
+        m,
+        conclusion,
+    );
+    Some(Written {
+        length,
+        inferences: needed.rules,
+    })
 }
 
 // The listing of a proof and its conclusion.
@@ -94,10 +101,9 @@ fn order(
     words::wipe(listing, n);
     let needed = list_needed(listing, forms, n, tokens, m);
     let count = list(listing, forms, n, needed.count, conclusion);
-    let rules = needed.rules;
     Needed {
-        count: count,
-        rules: rules,
+        count,
+        rules: needed.rules,
     }
 }
 
@@ -118,15 +124,11 @@ fn list_needed(listing: &mut [u32], forms: &[u32], n: usize, tokens: &[u32], m: 
         } else {
             let head = head_of(tokens, i);
             left = head.names;
-            let counted = rules.0 + head.rules.0;
-            rules = Inferences(counted);
+            rules = Inferences(rules.0 + head.rules.0);
             i += head.width;
         }
     }
-    Needed {
-        count: count,
-        rules: rules,
-    }
+    Needed { count, rules }
 }
 
 // The listing of k propositions grown by p, its parts first, left first, where it is not listed yet. The answer is the count then.
@@ -165,31 +167,28 @@ fn head_of(tokens: &[u32], i: usize) -> Head
     requires { i ≤ 16384 }
     ensures { (result ≡ head_by (get_or tokens.now i 0) (get_or tokens.now (i + 1) 0)) × (1 ≤ result.width) × (result.width ≤ 2) × (result.rules.0 ≤ 1) }
 {
-    let token = words::at(tokens, i);
-    if token == node::RULE {
-        return Head {
+    match words::at(tokens, i) {
+        node::RULE => Head {
             width: 2,
             names: language::arguments(words::at(tokens, i + 1)),
             rules: Inferences(1),
-        };
-    }
-    if token == node::SEQUENCE {
-        return Head {
+        },
+        node::SEQUENCE => Head {
             width: 1,
             names: 0,
             rules: Inferences(0),
-        };
-    }
-    Head {
-        width: 1,
-        names: 1,
-        rules: Inferences(0),
+        },
+        _ => Head {
+            width: 1,
+            names: 1,
+            rules: Inferences(0),
+        },
     }
 }
 
-// The whole certificate over a listing of k propositions, written or only measured. The answer is its length.
-fn emit(
-    out: &mut [u8],
+// The whole certificate over a listing of k propositions, into a sink at its start.
+fn emit<S: Sink>(
+    sink: &mut S,
     listing: &[u32],
     k: usize,
     forms: &[u32],
@@ -197,118 +196,91 @@ fn emit(
     tokens: &[u32],
     m: usize,
     conclusion: usize,
-    writes: bool,
-) -> usize
-    requires { Emitting forms.now n tokens.now m conclusion listing.now k writes out.old }
-    ensures { Emits forms.now n tokens.now m conclusion listing.now k writes out.old out.new result }
+)
+    requires { Emitting forms.now n tokens.now m conclusion listing.now k S.writes (S.bytes sink.old) × (S.place sink.old ≡ 0) }
+    ensures same { S.name sink.new ≡ S.name sink.old }
+    ensures emitted { Emits forms.now n tokens.now m conclusion listing.now k S.writes (S.bytes sink.old) (S.bytes sink.new) (S.place sink.new) }
 {
-    let a = emit_number(out, 0, k, writes);
-    let b = emit_records(out, listing, k, forms, n, a, writes);
-    let c = emit_proof(out, listing, tokens, m, b, writes);
-    emit_place(out, listing, conclusion, c, writes)
+    sink.number(k);
+    emit_records(sink, listing, k, forms, n);
+    emit_proof(sink, listing, tokens, m);
+    emit_place(sink, listing, conclusion);
 }
 
-// The records of the k propositions listed, from `at` on.
-fn emit_records(
-    out: &mut [u8],
-    listing: &[u32],
-    k: usize,
-    forms: &[u32],
-    n: usize,
-    at: usize,
-    writes: bool,
-) -> usize
-    requires { Recording forms.now n listing.now k writes at out.old }
-    ensures { Records forms.now n listing.now k writes at out.old out.new result }
+// The records of the k propositions listed.
+fn emit_records<S: Sink>(sink: &mut S, listing: &[u32], k: usize, forms: &[u32], n: usize)
+    requires { Recording forms.now n listing.now k S.writes (S.place sink.old) (S.bytes sink.old) }
+    ensures same { S.name sink.new ≡ S.name sink.old }
+    ensures emitted { Records forms.now n listing.now k S.writes (S.place sink.old) (S.bytes sink.old) (S.bytes sink.new) (S.place sink.new) }
 {
-    let mut i = 0;
-    let mut next = at;
-    while i < k {
+    for i in 0..k {
         let p = words::at(listing, n + i);
-        next = emit_record(out, listing, words::at(forms, p), next, writes);
-        i += 1;
+        emit_record(sink, listing, words::at(forms, p));
     }
-    next
 }
 
 // The record that a word says: its kind, then an atom's number or its parts by place.
-fn emit_record(out: &mut [u8], listing: &[u32], w: usize, at: usize, writes: bool) -> usize
-    requires { PartsPlaced listing.now w × Fits writes at (word_bytes listing.now w) out.old × (at ≤ 1000000) }
-    ensures { Emitted writes out.old at (word_bytes listing.now w) out.new result }
+fn emit_record<S: Sink>(sink: &mut S, listing: &[u32], w: usize)
+    requires { PartsPlaced listing.now w × Fits S.writes (S.place sink.old) (word_bytes listing.now w) (S.bytes sink.old) × (S.place sink.old ≤ 1000000) }
+    ensures same { S.name sink.new ≡ S.name sink.old }
+    ensures emitted { Emitted S.writes (S.bytes sink.old) (S.place sink.old) (word_bytes listing.now w) (S.bytes sink.new) (S.place sink.new) }
 {
     let kind = forms::kind_of(w);
-    let a = emit_number(out, at, kind, writes);
+    sink.number(kind);
     if kind == forms::kind::ATOM {
-        return emit_number(out, a, forms::left_of(w), writes);
+        sink.number(forms::left_of(w));
+        return;
     }
     if kind < forms::kind::NOT {
-        return a;
+        return;
     }
-    let b = emit_place(out, listing, forms::left_of(w), a, writes);
+    emit_place(sink, listing, forms::left_of(w));
     if kind == forms::kind::NOT {
-        return b;
+        return;
     }
-    emit_place(out, listing, forms::right_of(w), b, writes)
+    emit_place(sink, listing, forms::right_of(w));
 }
 
-// The proof that the first m tokens tell, from `at` on. `left` propositions follow before the next node begins.
-fn emit_proof(
-    out: &mut [u8],
-    listing: &[u32],
-    tokens: &[u32],
-    m: usize,
-    at: usize,
-    writes: bool,
-) -> usize
-    requires { Proving tokens.now m listing.now writes at out.old }
-    ensures { Proofs tokens.now m listing.now writes at out.old out.new result }
+// The proof that the first m tokens tell. `left` propositions follow before the next node begins.
+fn emit_proof<S: Sink>(sink: &mut S, listing: &[u32], tokens: &[u32], m: usize)
+    requires { Proving tokens.now m listing.now S.writes (S.place sink.old) (S.bytes sink.old) }
+    ensures same { S.name sink.new ≡ S.name sink.old }
+    ensures emitted { Proofs tokens.now m listing.now S.writes (S.place sink.old) (S.bytes sink.old) (S.bytes sink.new) (S.place sink.new) }
 {
     let mut i = 0;
     let mut left = 0;
-    let mut next = at;
     while i < m {
         if 0 < left {
-            next = emit_place(out, listing, words::at(tokens, i), next, writes);
+            emit_place(sink, listing, words::at(tokens, i));
             left -= 1;
             i += 1;
         } else {
             let head = head_of(tokens, i);
-            next = emit_head(out, tokens, i, next, writes);
+            emit_head(sink, tokens, i);
             left = head.names;
             i += head.width;
         }
     }
-    next
 }
 
 // The beginning of the node at a place of the tokens: its kind, and a rule's number.
-fn emit_head(out: &mut [u8], tokens: &[u32], i: usize, at: usize, writes: bool) -> usize
-    requires { HeadFits (get_or tokens.now i 0) (get_or tokens.now (i + 1) 0) writes at out.old × (i ≤ 16384) × (at ≤ 1000000) }
-    ensures { Emitted writes out.old at (head_bytes (get_or tokens.now i 0) (get_or tokens.now (i + 1) 0)) out.new result }
+fn emit_head<S: Sink>(sink: &mut S, tokens: &[u32], i: usize)
+    requires { HeadFits (get_or tokens.now i 0) (get_or tokens.now (i + 1) 0) S.writes (S.place sink.old) (S.bytes sink.old) × (i ≤ 16384) × (S.place sink.old ≤ 1000000) }
+    ensures same { S.name sink.new ≡ S.name sink.old }
+    ensures emitted { Emitted S.writes (S.bytes sink.old) (S.place sink.old) (head_bytes (get_or tokens.now i 0) (get_or tokens.now (i + 1) 0)) (S.bytes sink.new) (S.place sink.new) }
 {
     let token = words::at(tokens, i);
-    let next = emit_number(out, at, token, writes);
+    sink.number(token);
     if token == node::RULE {
-        return emit_number(out, next, words::at(tokens, i + 1), writes);
+        sink.number(words::at(tokens, i + 1));
     }
-    next
 }
 
 // The place of the proposition p in the listing.
-fn emit_place(out: &mut [u8], listing: &[u32], p: usize, at: usize, writes: bool) -> usize
-    requires { Placed listing.now p × Fits writes at (placed listing.now p) out.old × (at ≤ 1000010) }
-    ensures { Emitted writes out.old at (placed listing.now p) out.new result }
+fn emit_place<S: Sink>(sink: &mut S, listing: &[u32], p: usize)
+    requires { Placed listing.now p × Fits S.writes (S.place sink.old) (placed listing.now p) (S.bytes sink.old) × (S.place sink.old ≤ 1000010) }
+    ensures same { S.name sink.new ≡ S.name sink.old }
+    ensures emitted { Emitted S.writes (S.bytes sink.old) (S.place sink.old) (placed listing.now p) (S.bytes sink.new) (S.place sink.new) }
 {
-    emit_number(out, at, words::at(listing, p) - 1, writes)
-}
-
-// A number's bytes at a place, written or only measured. The answer is the place past them.
-fn emit_number(out: &mut [u8], at: usize, v: usize, writes: bool) -> usize
-    requires { Fits writes at (groups v) out.old × (v ≤ 65535) × (at ≤ 1000010) }
-    ensures { Emitted writes out.old at (groups v) out.new result }
-{
-    if writes {
-        return numbers::write(out, at, v);
-    }
-    at + numbers::length_of(v)
+    sink.number(words::at(listing, p) - 1);
 }

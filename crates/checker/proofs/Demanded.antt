@@ -6,8 +6,12 @@ use mathlib.Core.Bool.{true}
 use mathlib.Core.List.{List, [], ◌∷◌}
 use Rattle.language.specs.Check.{Verdict, stands, falls, verdict}
 use Rattle.language.specs.Doors.{checked_numbers, verdict_numbers, check_lengths, enough, Checking}
-use Rattle.language.specs.declared.Checked.{Checked}
-use Rattle.language.specs.declared.Checked.TheVariants.{Stands, Falls}
+use Rattle.std.specs.Prelude.{Result, Ok, Err}
+use Rattle.language.specs.Numbered.{number_of}
+use Rattle.language.specs.declared.refusal.Refusal.{Refusal}
+use Rattle.language.specs.declared.Stands.{Stands}
+use Rattle.theorems.proofs.Refusals.{refusal_once}
+use Rattle.theorems.proofs.Lists.{clash}
 use Rattle.theorems.specs.Demands.{ChecksExactly, StandsTrue}
 use Rattle.theorems.proofs.Checking.{checks_exactly, stands_true}
 use Rattle.checker.specs.Verdicts.{scratch, Checks}
@@ -20,7 +24,7 @@ unfolding verdict_numbers
 accepted_is (stands a b) k i e = let x : a ≡ k = cc in let y : b ≡ i = cc in rw (x, y)
 accepted_is (falls n p) k i e = absurd (let z : ◌≡◌ {A = ℕ} 0 1 = cc in omega arith)
 
-numbers_are : (s bytes : List ℕ) (r : Checked) (ns₀ fs₀ ps₀ hs₀ bs₀ ns fs ps hs bs : List ℕ) → Checks s bytes r ns₀ fs₀ ps₀ hs₀ bs₀ ns fs ps hs bs →
+numbers_are : (s bytes : List ℕ) (r : Result Stands Refusal) (ns₀ fs₀ ps₀ hs₀ bs₀ ns fs ps hs bs : List ℕ) → Checks s bytes r ns₀ fs₀ ps₀ hs₀ bs₀ ns fs ps hs bs →
     enough check_lengths (scratch ns₀ fs₀ ps₀ hs₀ bs₀) ≡ true → checked_numbers r ≡ verdict_numbers (verdict s bytes)
 numbers_are s bytes r ns₀ fs₀ ps₀ hs₀ bs₀ ns fs ps hs bs x e =
     ap (λ (c : Checking). c.numbers) (x.checks ∙ checking_enough s bytes (scratch ns₀ fs₀ ps₀ hs₀ bs₀) e)
@@ -40,17 +44,20 @@ check_true s bytes r ns₀ fs₀ ps₀ hs₀ bs₀ ns fs ps hs bs x long S end k
     stands_true s bytes S end k i reads (accepted_is (verdict s bytes) k i (sym n ∙ e))
 
 -- an answer is known by its numbers
-numbers_once : (r r' : Checked) → checked_numbers r ≡ checked_numbers r' → r ≡ r'
+numbers_once : (r r' : Result Stands Refusal) → checked_numbers r ≡ checked_numbers r' → r ≡ r'
 unfolding checked_numbers
-numbers_once (Stands k i) (Stands k' i') e =
-    let x : k ≡ k' = cc in
-    let y : i.0 ≡ i'.0 = cc in
-    ap₂ (λ (a b : ℕ). Stands a (record { 0 = b })) x y
-numbers_once (Stands k i) (Falls n p) e = absurd (let z : ◌≡◌ {A = ℕ} 0 1 = cc in omega arith)
-numbers_once (Falls n p) (Stands k i) e = absurd (let z : ◌≡◌ {A = ℕ} 0 1 = cc in omega arith)
-numbers_once (Falls n p) (Falls n' p') e = let x : n ≡ n' = cc in let y : p ≡ p' = cc in rw (x, y)
+numbers_once (Ok c) (Ok c') e =
+    let x : c.conclusion ≡ c'.conclusion = cc in
+    let y : c.inferences.0 ≡ c'.inferences.0 = cc in
+    ap₂ (λ (a b : ℕ). Ok (record { conclusion = a; inferences = record { 0 = b } })) x y
+numbers_once (Ok c) (Err r) e = absurd (clash cc)
+numbers_once (Err r) (Ok c) e = absurd (clash cc)
+numbers_once (Err r) (Err r') e =
+    let x : number_of r.0 ≡ number_of r'.0 = cc in
+    let y : r.1 ≡ r'.1 = cc in
+    ap Err (refusal_once r r' x y)
 
-pub check_once : (s bytes : List ℕ) (r r' : Checked) (ns₀ fs₀ ps₀ hs₀ bs₀ ns fs ps hs bs ns' fs' ps' hs' bs' : List ℕ) →
+pub check_once : (s bytes : List ℕ) (r r' : Result Stands Refusal) (ns₀ fs₀ ps₀ hs₀ bs₀ ns fs ps hs bs ns' fs' ps' hs' bs' : List ℕ) →
     Checks s bytes r ns₀ fs₀ ps₀ hs₀ bs₀ ns fs ps hs bs → Checks s bytes r' ns₀ fs₀ ps₀ hs₀ bs₀ ns' fs' ps' hs' bs' →
     (r ≡ r') × (scratch ns fs ps hs bs ≡ scratch ns' fs' ps' hs' bs')
 check_once s bytes r r' ns₀ fs₀ ps₀ hs₀ bs₀ ns fs ps hs bs ns' fs' ps' hs' bs' x y =

@@ -14,14 +14,15 @@ use Rattle.language.specs.Numbers.{Got, got, no, pick, below}
 use Rattle.language.specs.Plain.{inferences}
 use Rattle.language.specs.Check.{Node, plain, Counted, node, Certificate, concluded, stands, falls, stated}
 use Rattle.language.specs.Doors.{checked_numbers, verdict_numbers}
-use Rattle.language.specs.declared.Checked.TheVariants.{Stands, Falls}
+use Rattle.std.specs.Prelude.{Ok, Err}
+use Rattle.language.specs.declared.refusal.Refusal.{Refusal}
+use Rattle.language.specs.declared.refusal.Why.TheVariants.{StatedDiffers}
 use Rattle.numbers.proofs.Bounds.{then_got, check_got, below_got}
 use Rattle.forms.specs.Table.{tree}
 use Rattle.forms.proofs.Trees.{same_at}
 use Rattle.rules.specs.Base.{base_of}
 use Rattle.checker.specs.declared.reading.Stated.{Stated}
-use Rattle.checker.specs.declared.reading.ProofRead.TheVariants as proof
-use Rattle.checker.specs.declared.walking.Walked.TheVariants.{Concluded, Refused}
+use Rattle.checker.specs.declared.walking.Walked.{Walked}
 use Rattle.checker.specs.Walk.{node_at, Setting, Room, Awaits, Meets, Walks}
 use Rattle.checker.specs.Tally.{proof_at, certified}
 use Rattle.checker.specs.Judge.{Stating, Judged}
@@ -56,7 +57,7 @@ proved s ps at C end e =
     }
 
 -- what is stated is the certificate's
-said_is : (c : Stated) (C : Certificate) (end : ℕ) (g : Got Certificate) → g ≡ got C end → proof.Read c ≡ certified g → c ≡ record { rules = record { 0 = inferences (plain C.proof) }; conclusion = C.conclusion; place = C.place }
+said_is : (c : Stated) (C : Certificate) (end : ℕ) (g : Got Certificate) → g ≡ got C end → Ok c ≡ certified g → c ≡ record { rules = record { 0 = inferences (plain C.proof) }; conclusion = C.conclusion; place = C.place }
 unfolding certified
 said_is c C end g e f = let h = rw e at f in cc
 
@@ -66,7 +67,7 @@ unfolding stated
 stated_is ps x k place q at v rules conclusion placed e r d l = rw (e, r, d, l)
 
 -- some certificate was read where one is stated
-some_read : (c : Stated) (g : Got Certificate) → proof.Read c ≡ certified g → (C : Certificate) × (end : ℕ) × (g ≡ got C end)
+some_read : (c : Stated) (g : Got Certificate) → Ok c ≡ certified g → (C : Certificate) × (end : ℕ) × (g ≡ got C end)
 unfolding certified
 some_read c (got C end) e = (C, end, refl)
 some_read c (no w p) e = absurd (let z : ◌≡◌ {A = ℕ} 0 1 = cc in omega arith)
@@ -93,47 +94,47 @@ module _ (t base s names : List ℕ) (n b at : ℕ) (c : Stated) (long : n + 716
       }
 
   -- a refusal on the way
-  refused_stated : (u : List ℕ) (fs : List Form) (nodes next w l : ℕ) (C : Certificate) (g : Got Form) → Meets u fs n 0 nodes next (Refused w l) g → checked_numbers (Falls w l) ≡ verdict_numbers (stated C g)
+  refused_stated : (u : List ℕ) (fs : List Form) (nodes next : ℕ) (x : Refusal) (C : Certificate) (g : Got Form) → Meets u fs n 0 nodes next (Err x) g → checked_numbers (Err x) ≡ verdict_numbers (stated C g)
   unfolding checked_numbers verdict_numbers stated
-  refused_stated u fs nodes next w l C (got q at) M = absurd M
-  refused_stated u fs nodes next w l C (no why place) M = rw (M.0, M.1)
+  refused_stated u fs nodes next x C (got q at) M = absurd M
+  refused_stated u fs nodes next x C (no why place) M = rw (M.0, M.1)
 
-  pub judge_refused : (u base₁ : List ℕ) (w l : ℕ) → Walks (node_at 512 s at) t base names n b 512 u base₁ (Refused w l) → Judged t base s names n b at c (Falls w l)
-  judge_refused u base₁ w l W =
+  pub judge_refused : (u base₁ : List ℕ) (x : Refusal) → Walks (node_at 512 s at) t base names n b 512 u base₁ (Err x) → Judged t base s names n b at c (Err x)
+  judge_refused u base₁ x W =
       record {
         answers = λ fs ps S said C end e.
             let P = proved s ps at C end e in
             let M = W.meets fs ps S 0 P.root P.place P.read (room ps P.root P.place P.read) in
-            rw P.is (refused_stated u fs P.root.nodes P.place w l _ _ M);
+            rw P.is (refused_stated u fs P.root.nodes P.place x _ _ M);
       }
 
   -- a conclusion, and the number of the one that is stated
-  module _ (u base₁ : List ℕ) (p m k : ℕ) (W : Walks (node_at 512 s at) t base names n b 512 u base₁ (Concluded p m k)) (lu : length u ≡ length t) where
-    module _ (fs ps : List Form) (S : Setting t base names n b 512 fs ps) (said : proof.Read c ≡ certified (proof_at s ps at)) (C : Certificate) (end : ℕ) (e : proof_at s ps at ≡ got C end) where
+  module _ (u base₁ : List ℕ) (walked : Walked) (W : Walks (node_at 512 s at) t base names n b 512 u base₁ (Ok walked)) (lu : length u ≡ length t) where
+    module _ (fs ps : List Form) (S : Setting t base names n b 512 fs ps) (said : Ok c ≡ certified (proof_at s ps at)) (C : Certificate) (end : ℕ) (e : proof_at s ps at ≡ got C end) where
       abbrev P : Proved s ps at C end
       P = proved s ps at C end e
 
-      derived : After u fs n 0 P.root.nodes P.place p m k (concluded (base_of fs base b) P.root.node)
+      derived : After u fs n 0 P.root.nodes P.place walked (concluded (base_of fs base b) P.root.node)
       derived =
-          after_walk u fs n 0 P.root.nodes P.place p m k (concluded (base_of fs base b) P.root.node)
+          after_walk u fs n 0 P.root.nodes P.place walked (concluded (base_of fs base b) P.root.node)
           (W.meets fs ps S 0 P.root P.place P.read (room ps P.root P.place P.read))
 
-      fits : k ≤ length u
+      fits : walked.size ≤ length u
       fits =
           let l = (node_within 512 s ps 0 at P.root P.place P.read).limit in
           let d = derived.derived.paid in
           omega arith
 
-      same_number : same derived.q (get_or ps P.k verum) ≡ eqb p (get_or names P.k 0)
+      same_number : same derived.q (get_or ps P.k verum) ≡ eqb walked.conclusion (get_or names P.k 0)
       same_number =
           let D = derived.derived in
           let w = S.named P.k P.low in
           let f = fits in
-          let l = length-take-le k u f in
+          let l = length-take-le walked.size u f in
           let low = D.low in
-          let o = more_words t u n k fs D.more S.table D.table (omega arith) f in
-          let x : tree (fs ++ D.more) (get_or names P.k 0) ≡ get_or ps P.k verum = old_trees t u n k fs D.more S.table D.table (omega arith) f (get_or names P.k 0) w.0 ∙ w.1 in
-          rw (← D.is, ← x) (same_at (take k u) (fs ++ D.more) D.table p (get_or names P.k 0) (omega arith) (omega arith))
+          let o = more_words t u n walked.size fs D.more S.table D.table (omega arith) f in
+          let x : tree (fs ++ D.more) (get_or names P.k 0) ≡ get_or ps P.k verum = old_trees t u n walked.size fs D.more S.table D.table (omega arith) f (get_or names P.k 0) w.0 ∙ w.1 in
+          rw (← D.is, ← x) (same_at (take walked.size u) (fs ++ D.more) D.table walked.conclusion (get_or names P.k 0) (omega arith) (omega arith))
 
       what_is_said : (c.rules.0 ≡ inferences (plain P.root.node)) × (c.conclusion ≡ P.k) × (c.place ≡ P.place)
       what_is_said =
@@ -144,20 +145,20 @@ module _ (t base s names : List ℕ) (n b at : ℕ) (c : Stated) (long : n + 716
             ap (λ (v : Stated). v.place) z ∙ ap (λ (v : Certificate). v.place) y,
           )
 
-      answered : (v : Bool) → eqb p (get_or names c.conclusion 0) ≡ v → verdict_numbers (stated C (concluded (base_of fs base b) C.proof)) ≡ verdict_numbers (pick v (stands c.conclusion c.rules.0) (falls stated_differs c.place))
+      answered : (v : Bool) → eqb walked.conclusion (get_or names c.conclusion 0) ≡ v → verdict_numbers (stated C (concluded (base_of fs base b) C.proof)) ≡ verdict_numbers (pick v (stands c.conclusion c.rules.0) (falls stated_differs c.place))
       answered v h =
           let w = what_is_said in
-          let x : same derived.q (get_or ps P.k verum) ≡ v = same_number ∙ ap (λ (j : ℕ). eqb p (get_or names j 0)) (sym w.1) ∙ h in
+          let x : same derived.q (get_or ps P.k verum) ≡ v = same_number ∙ ap (λ (j : ℕ). eqb walked.conclusion (get_or names j 0)) (sym w.1) ∙ h in
           ap (λ (D : Certificate). verdict_numbers (stated D (concluded (base_of fs base b) D.proof))) P.is
           ∙ ap (λ (g : Got Form). verdict_numbers (stated (record { forms = ps; proof = P.root.node; conclusion = P.k; place = P.place }) g)) derived.is
           ∙ ap verdict_numbers (stated_is ps P.root.node P.k P.place derived.q derived.at v c.rules.0 c.conclusion c.place x w.0 w.1 w.2)
 
-    pub judge_stands : (v : ℕ) → v ≡ get_or names c.conclusion 0 → p ≡ v → Judged t base s names n b at c (Stands c.conclusion c.rules)
+    pub judge_stands : (v : ℕ) → v ≡ get_or names c.conclusion 0 → walked.conclusion ≡ v → Judged t base s names n b at c (Ok (record { conclusion = c.conclusion; inferences = c.rules }))
     unfolding checked_numbers verdict_numbers pick
     judge_stands v f g =
-        record { answers = λ fs ps S said C end e. sym (answered fs ps S said C end e true (eq-eqb p (get_or names c.conclusion 0) (g ∙ f))) }
+        record { answers = λ fs ps S said C end e. sym (answered fs ps S said C end e true (eq-eqb walked.conclusion (get_or names c.conclusion 0) (g ∙ f))) }
 
-    pub judge_differs : (v : ℕ) → v ≡ get_or names c.conclusion 0 → (p ≡ v → ⊥) → Judged t base s names n b at c (Falls stated_differs c.place)
+    pub judge_differs : (v : ℕ) → v ≡ get_or names c.conclusion 0 → (walked.conclusion ≡ v → ⊥) → Judged t base s names n b at c (Err (record { 0 = StatedDiffers; 1 = c.place }))
     unfolding checked_numbers verdict_numbers pick
     judge_differs v f g =
-        record { answers = λ fs ps S said C end e. sym (answered fs ps S said C end e false (ne_eqb p (get_or names c.conclusion 0) (λ z. g (z ∙ sym f)))) }
+        record { answers = λ fs ps S said C end e. sym (answered fs ps S said C end e false (ne_eqb walked.conclusion (get_or names c.conclusion 0) (λ z. g (z ∙ sym f)))) }

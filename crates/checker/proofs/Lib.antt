@@ -12,6 +12,8 @@ pub mod Statements
 pub mod Judging
 pub mod Bases
 pub mod Certificates
+pub mod Refusing
+pub mod Mapping
 pub mod Passing
 pub mod Scratch
 pub mod SheetPassing

@@ -11,23 +11,23 @@ use Rattle.language.specs.Numbers.{Got, got, no, then, from, times}
 use Rattle.language.specs.Read.{proposition}
 use Rattle.language.specs.Check.{Certificate, certificate_at, stated, concluded}
 use Rattle.language.specs.Doors.{checked_numbers, verdict_numbers}
-use Rattle.language.specs.declared.Checked.{Checked}
-use Rattle.language.specs.declared.Checked.TheVariants.{Falls}
+use Rattle.std.specs.Prelude.{Result, Ok, Err}
+use Rattle.language.specs.Numbered.{number_of}
+use Rattle.language.specs.declared.refusal.Refusal.{Refusal}
+use Rattle.language.specs.declared.Stands.{Stands}
+use Rattle.theorems.proofs.Lists.{clash}
 use Rattle.theorems.proofs.Reading.{ensure, ensured, ensures_times}
 use Rattle.words.proofs.Fronts.{take_front, get_d_front, length_front}
 use Rattle.forms.specs.Table.{Table}
 use Rattle.forms.proofs.Growth.{tree_more}
 use Rattle.records.specs.Reading.{Props, naming}
 use Rattle.records.specs.Answers.{ends}
-use Rattle.records.specs.declared.Ended.{Ended}
-use Rattle.records.specs.declared.Ended.TheVariants as ended
 use Rattle.reader.specs.declared.Named.{Named as NamedCounts}
 use Rattle.reader.specs.Laid.{Propositions}
 use Rattle.reader.specs.Stands.{Named}
 use Rattle.reader.proofs.PropSaying.{NamedAs, named_said, named_refused, naming_says}
 use Rattle.rules.specs.Base.{base_of}
 use Rattle.checker.specs.declared.reading.Stated.{Stated}
-use Rattle.checker.specs.declared.reading.ProofRead.TheVariants as proof
 use Rattle.checker.specs.Walk.{Setting}
 use Rattle.checker.specs.Tally.{proof_at, own_number, certified}
 use Rattle.checker.specs.Judge.{Judged}
@@ -36,27 +36,36 @@ use Rattle.rules.specs.Base.{Alike}
 use Rattle.rules.proofs.Sets.{stack_alike}
 use Rattle.checker.proofs.Bases.{concluded_alike}
 use Rattle.checker.proofs.Certificates.{certificate_parts}
+use Rattle.checker.proofs.Refusing.{Late, refused, late_no, late_from, late_listing, late_proof}
+use Rattle.checker.proofs.Tallies.{err_both}
+
+-- what is answered, o, for what was refused, r
+abbrev pub Owned : Refusal → Refusal → Type 0
+Owned r o = (3 ≤ number_of r.0 → number_of o.0 ≡ own_number (number_of r.0)) × (o.1 ≡ r.1)
 
 -- the proof, read and refused, or read and judged
 module _ (s : List ℕ) (at : ℕ) (names forms base : List ℕ) (n b count : ℕ) where
-  read_refused : (g : Got Certificate) (β : List Form) (w p o : ℕ) → proof.Refused w p ≡ certified g → o ≡ own_number w →
-      checked_numbers (Falls o p) ≡ verdict_numbers (verdict_in β g)
+  read_refused : (g : Got Certificate) → Late g → (β : List Form) (r o : Refusal) → Err (number_of r.0, r.1) ≡ certified g → Owned r o →
+      checked_numbers (Err o) ≡ verdict_numbers (verdict_in β g)
   unfolding certified verdict_in verdict_numbers checked_numbers
-  read_refused (got C end) β w p o e f = absurd (let z : ◌≡◌ {A = ℕ} 0 1 = cc in omega arith)
-  read_refused (no w' p') β w p o e f = let x : w ≡ w' = cc in let y : p ≡ p' = cc in rw (f, x, y)
+  read_refused (got C end) late β r o e f = absurd (clash cc)
+  read_refused (no w p) (refused h) β r o e f =
+      let x = err_both (number_of r.0) r.1 w p e in
+      let l : 3 ≤ number_of r.0 = omega (arith, x.0) in
+      rw (f.0 l, f.1, x.0, x.1)
 
-  pub proof_refused : (w p o : ℕ) → o ≡ own_number w → ((ps : List Form) → length ps ≡ count → proof.Refused w p ≡ certified (proof_at s ps at)) →
-      ProofAnswers s at names forms base n b count (Falls o p)
-  proof_refused w p o f e = record { answers = λ fs ps S l. read_refused (proof_at s ps at) (base_of fs base b) w p o (e ps l) f }
+  pub proof_refused : (r o : Refusal) → Owned r o → ((ps : List Form) → length ps ≡ count → Err (number_of r.0, r.1) ≡ certified (proof_at s ps at)) →
+      ProofAnswers s at names forms base n b count (Err o)
+  proof_refused r o f e = record { answers = λ fs ps S l. read_refused (proof_at s ps at) (late_proof s ps at) (base_of fs base b) r o (e ps l) f }
 
-  pub proof_judged : (c : Stated) (r : Checked) → Judged forms base s names n b at c r →
-      ((ps : List Form) → length ps ≡ count → proof.Read c ≡ certified (proof_at s ps at)) → ProofAnswers s at names forms base n b count r
+  pub proof_judged : (c : Stated) (r : Result Stands Refusal) → Judged forms base s names n b at c r →
+      ((ps : List Form) → length ps ≡ count → Ok c ≡ certified (proof_at s ps at)) → ProofAnswers s at names forms base n b count r
   unfolding verdict_in certified
   proof_judged c r J e =
       record { answers = λ fs ps S l. go (proof_at s ps at) (λ C end g. J.answers fs ps S (e ps l) C end g) (e ps l) (base_of fs base b) refl }
     where
       go : (g : Got Certificate) → {β : List Form} → ((C : Certificate) (end : ℕ) → g ≡ got C end → checked_numbers r ≡ verdict_numbers (stated C (concluded β C.proof))) →
-          proof.Read c ≡ certified g → (γ : List Form) → γ ≡ β → checked_numbers r ≡ verdict_numbers (verdict_in γ g)
+          Ok c ≡ certified g → (γ : List Form) → γ ≡ β → checked_numbers r ≡ verdict_numbers (verdict_in γ g)
       go (got C end) h e γ z = rw z (h C end refl)
       go (no w p) h e γ z = absurd (let z : ◌≡◌ {A = ℕ} 0 1 = cc in omega arith)
 
@@ -142,12 +151,12 @@ module _ (s : List ℕ) (names forms base : List ℕ) (n b count at : ℕ) (few 
   verdict_alike β γ h (got C end) = ap (stated C) (concluded_alike C.proof β γ h)
 
   module _ (r : NamedCounts) (names' forms' : List ℕ) (Q : Propositions P r names forms names' forms') where
-    ended_is : (e : Ended) → r.ended ≡ e → P.ended ≡ ends e
+    ended_is : (e : Result ℕ Refusal) → r.ended ≡ e → P.ended ≡ ends e
     ended_is e z = sym Q.ended ∙ ap ends z
 
-    pub listing_ready : (fs β : List Form) → Standing forms base n b fs β → (next : ℕ) → r.ended ≡ ended.At next → Listed names' forms' base r.words b count
+    pub listing_ready : (fs β : List Form) → Standing forms base n b fs β → (next : ℕ) → r.ended ≡ Ok next → Listed names' forms' base r.words b count
     listing_ready fs β st next e =
-        let R = read_is fs β st next (ended_is (ended.At next) e) in
+        let R = read_is fs β st next (ended_is (Ok next) e) in
         let f = R.within in
         let w = Q.words in
         let g = fixed.few in
@@ -161,18 +170,22 @@ module _ (s : List ℕ) (names forms base : List ℕ) (n b count at : ℕ) (few 
           small = omega arith;
         }
 
-    pub listing_stops : (w p o : ℕ) → r.ended ≡ ended.Refused w p → o ≡ own_number w → Answers (listing_at s count at) forms base n b (Falls o p)
+    pub listing_stops : (x o : Refusal) → r.ended ≡ Err x → Owned x o → Answers (listing_at s count at) forms base n b (Err o)
     unfolding verdict_in verdict_numbers checked_numbers then
-    listing_stops w p o e f =
-        record { answers = λ fs β st. rw (refused_is fs β st w p (ended_is (ended.Refused w p) e), f) }
+    listing_stops x o e f =
+        record {
+          answers = λ fs β st.
+              let g = refused_is fs β st (number_of x.0) x.1 (ended_is (Err x) e) in
+              rw (g, f.0 (late_no (late_listing s count at) g), f.1);
+        }
 
-    pub listing_goes_on : (next : ℕ) (x : Checked) → r.ended ≡ ended.At next → ProofAnswers s next names' forms' base r.words b count x →
+    pub listing_goes_on : (next : ℕ) (x : Result Stands Refusal) → r.ended ≡ Ok next → ProofAnswers s next names' forms' base r.words b count x →
         Answers (listing_at s count at) forms base n b x
     unfolding then
     listing_goes_on next x e A =
         record {
           answers = λ fs β st.
-              let R = read_is fs β st next (ended_is (ended.At next) e) in
+              let R = read_is fs β st next (ended_is (Ok next) e) in
               A.answers (fs ++ R.more) R.listing (setting_is fs β st r names' forms' Q next R) (counted_is fs β st next R)
               ∙ ap verdict_numbers (verdict_alike (base_of (fs ++ R.more) base b) β (alike fs β st next R) (proof_at s R.listing next))
               ∙ rw R.is;
@@ -180,10 +193,10 @@ module _ (s : List ℕ) (names forms base : List ℕ) (n b count at : ℕ) (few 
 
 -- the count
 module _ (s forms base : List ℕ) (n b : ℕ) where
-  pub count_stops : (w p o : ℕ) → from 0 4608 s 0 ≡ no w p → o ≡ own_number w → Answers (certificate_at s) forms base n b (Falls o p)
+  pub count_stops : (x o : Refusal) → from 0 4608 s 0 ≡ no (number_of x.0) x.1 → Owned x o → Answers (certificate_at s) forms base n b (Err o)
   unfolding verdict_in verdict_numbers checked_numbers then
-  count_stops w p o e f = record { answers = λ fs β st. rw (certificate_parts s, e, f) }
+  count_stops x o e f = record { answers = λ fs β st. rw (certificate_parts s, e, f.0 (late_no (late_from 0 4608 s 0) e), f.1) }
 
-  pub count_goes_on : (count at : ℕ) (x : Checked) → from 0 4608 s 0 ≡ got count at → Answers (listing_at s count at) forms base n b x → Answers (certificate_at s) forms base n b x
+  pub count_goes_on : (count at : ℕ) (x : Result Stands Refusal) → from 0 4608 s 0 ≡ got count at → Answers (listing_at s count at) forms base n b x → Answers (certificate_at s) forms base n b x
   unfolding then
   count_goes_on count at x e A = record { answers = λ fs β st. rw (certificate_parts s, e) (A.answers fs β st) }

@@ -16,14 +16,17 @@ use Rattle.numbers.proofs.Bounds.{then_got, below_got}
 use Rattle.words.proofs.Fronts.{take_front}
 use Rattle.forms.specs.Table.{tree}
 use Rattle.forms.proofs.Trees.{truth_at}
-use Rattle.rules.specs.declared.Applied.{Applied}
 use Rattle.rules.specs.Base.{base_of}
 use Rattle.theorems.proofs.Arguments.{three, ruled_at}
 use Rattle.rules.specs.Applied.{Ready, whether, outcome, Comes, Ruling}
 use Rattle.checker.specs.declared.walking.Arguments.{Arguments}
+use Rattle.std.specs.Prelude.{Result, Ok, Err}
+use Rattle.language.specs.declared.refusal.Why.{Why}
+use Rattle.language.specs.declared.refusal.Refusal.{Refusal}
+use Rattle.forms.specs.declared.Formed.{Formed}
 use Rattle.checker.specs.declared.walking.Walked.{Walked}
 use Rattle.checker.specs.Places.{value_at, next_at, name_at, name_if, next_if, arguments_at}
-use Rattle.checker.specs.Walk.{rule_at, Setting, Room, Awaits, walked_of, Meets, Walks}
+use Rattle.checker.specs.Walk.{rule_at, Setting, Room, Awaits, Meets, Walks}
 use Rattle.checker.proofs.Readings.{got_both, number_got}
 use Rattle.checker.proofs.Nodes.{rule_read}
 
@@ -102,19 +105,24 @@ module _ (s : List ℕ) (ps : List Form) (names : List ℕ) (fs : List Form) (n 
       }
   times_read (suc (suc (suc (suc k)))) h at xs next e = absurd (omega arith)
 
+-- a rule's answer as its node's
+abbrev pub walked_of : ℕ → ℕ → Result Formed Why → Result Walked Refusal
+walked_of at next (Ok f) = Ok (record { conclusion = f.at; next = next; size = f.size })
+walked_of at next (Err w) = Err (record { 0 = w; 1 = at })
+
 -- what a rule comes to is what the definition concludes
-whether_meets : (v : Bool) (q : Form) (ws : List ℕ) (n : ℕ) (fs : List Form) (t₀ t : List ℕ) (used at next : ℕ) (answer : Applied) → Comes (whether v q ws) n fs t₀ t answer → Meets t fs n used (used + 1) next (walked_of at next answer) (check v premise_missing at (got q at))
-unfolding whether check walked_of
+whether_meets : (v : Bool) (q : Form) (ws : List ℕ) (n : ℕ) (fs : List Form) (t₀ t : List ℕ) (used at next : ℕ) (answer : Result Formed Why) → Comes (whether v q ws) n fs t₀ t answer → Meets t fs n used (used + 1) next (walked_of at next answer) (check v premise_missing at (got q at))
+unfolding whether check
 whether_meets true q ws n fs t₀ t used at next answer C =
     let us = (whether true q ws).words in
     let w : take (length us) t ≡ us = ap (take (length us)) C.words ∙ take_front us t₀ in
-    let i = C.is _ _ refl in
+    let i = C.is _ refl in
     let paid = C.paid in
     rw C.answer (refl, record { more = C.more; table = rw w C.table; low = i.0; is = i.1; paid = omega arith })
 whether_meets false q ws n fs t₀ t used at next answer C = rw C.answer (refl, refl)
 
-outcome_meets : (R : Ruled) (β : List Form) (ws : List ℕ) (n : ℕ) (fs : List Form) (t₀ t : List ℕ) (used at next : ℕ) (answer : Applied) → Comes (outcome R β ws) n fs t₀ t answer → Meets t fs n used (used + 1) next (walked_of at next answer) (ruled_in R β at)
-unfolding outcome ruled_in walked_of
+outcome_meets : (R : Ruled) (β : List Form) (ws : List ℕ) (n : ℕ) (fs : List Form) (t₀ t : List ℕ) (used at next : ℕ) (answer : Result Formed Why) → Comes (outcome R β ws) n fs t₀ t answer → Meets t fs n used (used + 1) next (walked_of at next answer) (ruled_in R β at)
+unfolding outcome ruled_in
 outcome_meets misshapen β ws n fs t₀ t used at next answer C = rw C.answer (refl, refl)
 outcome_meets (gives ps q) β ws n fs t₀ t used at next answer C = whether_meets (members ps β) q ws n fs t₀ t used at next answer C
 
@@ -147,7 +155,7 @@ module _ (t base names s : List ℕ) (n b at a v c k : ℕ) (g : Arguments) (ev 
         let w : g ≡ arguments_at names s (get_or arity rule 0) r.place = rw (← same_rule, ← r.named.1, ← ev.1, ← ek) eg in
         rw w (times_read s ps names fs n S.named (truth_at (take n t) fs S.table) (omega arith) (get_or arity rule 0) (three rule) r.place r.arguments next r.read)
 
-    rule_meets : (u : List ℕ) (answer : Applied) (w : Walked) → Ruling t n base b v g.x g.y g.z u answer → w ≡ walked_of at g.next answer → Meets u fs n used d.nodes next w (concluded (base_of fs base b) d.node)
+    rule_meets : (u : List ℕ) (answer : Result Formed Why) (w : Result Walked Refusal) → Ruling t n base b v g.x g.y g.z u answer → w ≡ walked_of at g.next answer → Meets u fs n used d.nodes next w (concluded (base_of fs base b) d.node)
     unfolding concluded
     rule_meets u answer w ruling walked =
         let r = rule_read s ps used at a d next e in
@@ -170,6 +178,6 @@ module _ (t base names s : List ℕ) (n b at a v c k : ℕ) (g : Arguments) (ev 
         based = A.setting.based;
       }
 
-  pub rule_walks : (u : List ℕ) (answer : Applied) (w : Walked) → Ruling t n base b v g.x g.y g.z u answer → w ≡ walked_of at g.next answer → Walks (rule_at s at a) t base names n b 0 u base w
+  pub rule_walks : (u : List ℕ) (answer : Result Formed Why) (w : Result Walked Refusal) → Ruling t n base b v g.x g.y g.z u answer → w ≡ walked_of at g.next answer → Walks (rule_at s at a) t base names n b 0 u base w
   rule_walks u answer w ruling walked =
       record { kept = refl; meets = λ fs ps S used d next e room. rule_meets fs ps S used d next e room u answer w ruling walked }

@@ -7,8 +7,10 @@ use lib.ListN.{length, take, drop, replicate}
 use Rattle.language.specs.Numbers.{pick}
 use Rattle.language.specs.Check.{verdict}
 use Rattle.language.specs.Doors.{checked_numbers, verdict_numbers, check_lengths, enough, wiped, checking}
-use Rattle.language.specs.declared.Checked.{Checked}
-use Rattle.language.specs.declared.Checked.TheVariants.{Falls}
+use Rattle.std.specs.Prelude.{Result, Err}
+use Rattle.language.specs.declared.refusal.Refusal.{Refusal}
+use Rattle.language.specs.declared.Stands.{Stands}
+use Rattle.language.specs.declared.refusal.Why.TheVariants.{ScratchShort}
 use Rattle.theorems.proofs.Buffers.{enough_more, enough_none, fronts, fronts_long, long_more, over, over_wiped, wiped_more, wiped_none}
 use Rattle.checker.specs.Verdicts.{scratch, Checks}
 
@@ -36,11 +38,11 @@ unfolding checking pick
 checking_enough sheet certificate buffers e = rw e
 
 module _ (sheet certificate ns fs ps hs bs : List ℕ) where
-  pub door_short : enough check_lengths (scratch ns fs ps hs bs) ≡ false → Checks sheet certificate (Falls 2 0) ns fs ps hs bs ns fs ps hs bs
+  pub door_short : enough check_lengths (scratch ns fs ps hs bs) ≡ false → Checks sheet certificate (Err (record { 0 = ScratchShort; 1 = 0 })) ns fs ps hs bs ns fs ps hs bs
   unfolding checking pick checked_numbers
   door_short e = record { checks = rw e }
 
-  pub door_answers : enough check_lengths (scratch ns fs ps hs bs) ≡ true → (r : Checked) (xs : List (List ℕ)) (ns' fs' ps' hs' bs' : List ℕ) → map length xs ≡ check_lengths →
+  pub door_answers : enough check_lengths (scratch ns fs ps hs bs) ≡ true → (r : Result Stands Refusal) (xs : List (List ℕ)) (ns' fs' ps' hs' bs' : List ℕ) → map length xs ≡ check_lengths →
       checked_numbers r ≡ verdict_numbers (verdict sheet certificate) → scratch ns' fs' ps' hs' bs' ≡ wiped check_lengths (over check_lengths xs (scratch ns fs ps hs bs)) →
       Checks sheet certificate r ns fs ps hs bs ns' fs' ps' hs' bs'
   door_answers e r xs ns' fs' ps' hs' bs' l v w =

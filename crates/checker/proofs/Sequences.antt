@@ -8,8 +8,9 @@ use Rattle.language.specs.Form.{Form}
 use Rattle.language.specs.Numbers.{got, then}
 use Rattle.language.specs.Check.{Counted, concluded}
 use Rattle.rules.specs.Base.{base_of}
+use Rattle.std.specs.Prelude.{Result, Ok, Err}
+use Rattle.language.specs.declared.refusal.Refusal.{Refusal}
 use Rattle.checker.specs.declared.walking.Walked.{Walked}
-use Rattle.checker.specs.declared.walking.Walked.TheVariants.{Concluded, Refused}
 use Rattle.checker.specs.Walk.{node_at, two_at, Setting, Room, Awaits, Meets, Walks}
 use Rattle.checker.proofs.Nodes.{Two, two_read, node_counts}
 use Rattle.checker.proofs.Stacks.{pushed, pushed_base, more_words, old_trees}
@@ -36,13 +37,13 @@ module _ (t base names s : List ℕ) (n b d a : ℕ) where
         record { long = omega arith; small = omega arith }
 
     -- after the first
-    module _ (u base₁ : List ℕ) (p m k : ℕ) (W : Walks (node_at d s a) t base names n b d u base₁ (Concluded p m k)) (lu : length u ≡ length t) (lb : length base₁ ≡ length base) where
-      after_first : After u fs n (used + 1) read.one.nodes read.place p m k (concluded (base_of fs base b) read.one.node)
+    module _ (u base₁ : List ℕ) (w : Walked) (W : Walks (node_at d s a) t base names n b d u base₁ (Ok w)) (lu : length u ≡ length t) (lb : length base₁ ≡ length base) where
+      after_first : After u fs n (used + 1) read.one.nodes read.place w (concluded (base_of fs base b) read.one.node)
       after_first =
-          after_walk u fs n (used + 1) read.one.nodes read.place p m k (concluded (base_of fs base b) read.one.node)
+          after_walk u fs n (used + 1) read.one.nodes read.place w (concluded (base_of fs base b) read.one.node)
           (W.meets fs ps first_setting (used + 1) read.one read.place read.first first_room)
 
-      fits : (n ≤ length t) × (k ≤ length u) × (k ≤ 16384)
+      fits : (n ≤ length t) × (w.size ≤ length u) × (w.size ≤ 16384)
       fits =
           let z = counts in
           let x = node_counts d s ps (used + 1) a read.one read.place read.first in
@@ -52,22 +53,22 @@ module _ (t base names s : List ℕ) (n b d a : ℕ) where
           let h = room.small in
           (omega arith, omega arith, omega arith)
 
-      more : n ≤ k
-      more = let f = fits in more_words t u n k fs after_first.derived.more S.table after_first.derived.table f.0 f.1
+      more : n ≤ w.size
+      more = let f = fits in more_words t u n w.size fs after_first.derived.more S.table after_first.derived.table f.0 f.1
 
-      second_setting : Setting u (set base₁ b p) names k (b + 1) d (fs ++ after_first.derived.more) ps
+      second_setting : Setting u (set base₁ b w.conclusion) names w.size (b + 1) d (fs ++ after_first.derived.more) ps
       second_setting =
           let f = fits in
-          pushed t base names n b d fs ps S u base₁ k p (fs ++ after_first.derived.more) after_first.derived.table more
-          (old_trees t u n k fs after_first.derived.more S.table after_first.derived.table f.0 f.1) after_first.derived.low W.kept lb
+          pushed t base names n b d fs ps S u base₁ w.size w.conclusion (fs ++ after_first.derived.more) after_first.derived.table more
+          (old_trees t u n w.size fs after_first.derived.more S.table after_first.derived.table f.0 f.1) after_first.derived.low W.kept lb
 
-      second_base : base_of (fs ++ after_first.derived.more) (set base₁ b p) (b + 1) ≡ after_first.q ∷ base_of fs base b
+      second_base : base_of (fs ++ after_first.derived.more) (set base₁ b w.conclusion) (b + 1) ≡ after_first.q ∷ base_of fs base b
       second_base =
           let f = fits in
-          pushed_base t base names n b d fs ps S u base₁ k p (fs ++ after_first.derived.more) after_first.derived.table more
-          (old_trees t u n k fs after_first.derived.more S.table after_first.derived.table f.0 f.1) after_first.derived.low W.kept lb after_first.q after_first.derived.is
+          pushed_base t base names n b d fs ps S u base₁ w.size w.conclusion (fs ++ after_first.derived.more) after_first.derived.table more
+          (old_trees t u n w.size fs after_first.derived.more S.table after_first.derived.table f.0 f.1) after_first.derived.low W.kept lb after_first.q after_first.derived.is
 
-      second_room : Room u k read.one.nodes read.other.nodes
+      second_room : Room u w.size read.one.nodes read.other.nodes
       second_room =
           let z = counts in
           let paid = after_first.derived.paid in
@@ -75,16 +76,16 @@ module _ (t base names s : List ℕ) (n b d a : ℕ) where
           let h = room.small in
           record { long = omega arith; small = omega arith }
 
-      second_read : node_at d s m ps read.one.nodes ≡ got read.other next
+      second_read : node_at d s w.next ps read.one.nodes ≡ got read.other next
       second_read = rw after_first.place read.second
 
-      two_meets : (u₂ base₂ : List ℕ) (r : Walked) → Walks (node_at d s m) u (set base₁ b p) names k (b + 1) d u₂ base₂ r → Meets u₂ fs n used c.nodes next r (concluded (base_of fs base b) c.node)
+      two_meets : (u₂ base₂ : List ℕ) (r : Result Walked Refusal) → Walks (node_at d s w.next) u (set base₁ b w.conclusion) names w.size (b + 1) d u₂ base₂ r → Meets u₂ fs n used c.nodes next r (concluded (base_of fs base b) c.node)
       unfolding concluded then
       two_meets u₂ base₂ r W₂ =
           let M = W₂.meets (fs ++ after_first.derived.more) ps second_setting read.one.nodes read.other next second_read second_room in
-          let M₁ = subst (λ (β : List Form). Meets u₂ (fs ++ after_first.derived.more) k read.one.nodes read.other.nodes next r (concluded β read.other.node)) second_base M in
+          let M₁ = subst (λ (β : List Form). Meets u₂ (fs ++ after_first.derived.more) w.size read.one.nodes read.other.nodes next r (concluded β read.other.node)) second_base M in
           let paid = after_first.derived.paid in
-          let M₂ = meets_more u₂ fs after_first.derived.more n k used read.one.nodes read.other.nodes next r (concluded (after_first.q ∷ base_of fs base b) read.other.node) (omega arith) M₁ in
+          let M₂ = meets_more u₂ fs after_first.derived.more n w.size used read.one.nodes read.other.nodes next r (concluded (after_first.q ∷ base_of fs base b) read.other.node) (omega arith) M₁ in
           let g : then (concluded (base_of fs base b) read.one.node) (λ q at. concluded (q ∷ base_of fs base b) read.other.node) ≡ concluded (after_first.q ∷ base_of fs base b) read.other.node =
           then_is (concluded (base_of fs base b) read.one.node) (λ q at. concluded (q ∷ base_of fs base b) read.other.node) after_first.q after_first.at after_first.is in
           rw (read.is, g) M₂
@@ -105,48 +106,48 @@ module _ (t base names s : List ℕ) (n b d a : ℕ) where
       }
 
   -- where the first is refused, so are both
-  pub two_refused : (u base₁ : List ℕ) (w l : ℕ) → Walks (node_at d s a) t base names n b d u base₁ (Refused w l) → Walks (two_at d s a) t base names n b (d + 1) u base₁ (Refused w l)
+  pub two_refused : (u base₁ : List ℕ) (x : Refusal) → Walks (node_at d s a) t base names n b d u base₁ (Err x) → Walks (two_at d s a) t base names n b (d + 1) u base₁ (Err x)
   unfolding concluded
-  two_refused u base₁ w l W =
+  two_refused u base₁ x W =
       record {
         kept = W.kept;
         meets = λ fs ps S used c next e room.
             let r = two_read d s ps used a c next e in
             let M = W.meets fs ps (first_setting fs ps S used c next e room) (used + 1) r.one r.place r.first (first_room fs ps S used c next e room) in
             rw r.is
-            (refused_then u fs n (used + 1) r.one.nodes r.place used r.other.nodes next w l (concluded (base_of fs base b) r.one.node)
+            (refused_then u fs n (used + 1) r.one.nodes r.place used r.other.nodes next x (concluded (base_of fs base b) r.one.node)
             (λ q at. concluded (q ∷ base_of fs base b) r.other.node) M);
       }
 
   -- after the first, its conclusion is pushed and the second may be walked
-  module _ (u base₁ : List ℕ) (p m k : ℕ) (W : Walks (node_at d s a) t base names n b d u base₁ (Concluded p m k)) (lu : length u ≡ length t) (lb : length base₁ ≡ length base) where
-    pub push_fits : Awaits (two_at d s a) t base names n b (d + 1) → p < 16384
+  module _ (u base₁ : List ℕ) (w : Walked) (W : Walks (node_at d s a) t base names n b d u base₁ (Ok w)) (lu : length u ≡ length t) (lb : length base₁ ≡ length base) where
+    pub push_fits : Awaits (two_at d s a) t base names n b (d + 1) → w.conclusion < 16384
     push_fits A =
-        let f = fits A.trees A.listing A.setting A.used A.counted A.next A.was_read A.room u base₁ p m k W lu lb in
-        let D = after_first A.trees A.listing A.setting A.used A.counted A.next A.was_read A.room u base₁ p m k W lu lb in
+        let f = fits A.trees A.listing A.setting A.used A.counted A.next A.was_read A.room u base₁ w W lu lb in
+        let D = after_first A.trees A.listing A.setting A.used A.counted A.next A.was_read A.room u base₁ w W lu lb in
         let low = D.derived.low in
         omega arith
 
-    pub walk_second : Awaits (two_at d s a) t base names n b (d + 1) → (base₂ : List ℕ) → base₂ ≡ set base₁ b p → Awaits (node_at d s m) u base₂ names k (b + 1) d
+    pub walk_second : Awaits (two_at d s a) t base names n b (d + 1) → (base₂ : List ℕ) → base₂ ≡ set base₁ b w.conclusion → Awaits (node_at d s w.next) u base₂ names w.size (b + 1) d
     walk_second A base₂ e =
         let r = two_read d s A.listing A.used a A.counted A.next A.was_read in
-        let D = after_first A.trees A.listing A.setting A.used A.counted A.next A.was_read A.room u base₁ p m k W lu lb in
+        let D = after_first A.trees A.listing A.setting A.used A.counted A.next A.was_read A.room u base₁ w W lu lb in
         rw e
         (record {
           trees = A.trees ++ D.derived.more;
           listing = A.listing;
-          setting = second_setting A.trees A.listing A.setting A.used A.counted A.next A.was_read A.room u base₁ p m k W lu lb;
+          setting = second_setting A.trees A.listing A.setting A.used A.counted A.next A.was_read A.room u base₁ w W lu lb;
           used = r.one.nodes;
           counted = r.other;
           next = A.next;
-          was_read = second_read A.trees A.listing A.setting A.used A.counted A.next A.was_read A.room u base₁ p m k W lu lb;
-          room = second_room A.trees A.listing A.setting A.used A.counted A.next A.was_read A.room u base₁ p m k W lu lb;
+          was_read = second_read A.trees A.listing A.setting A.used A.counted A.next A.was_read A.room u base₁ w W lu lb;
+          room = second_room A.trees A.listing A.setting A.used A.counted A.next A.was_read A.room u base₁ w W lu lb;
         })
 
-    pub two_concluded : (base₂ u₂ base₃ : List ℕ) (r : Walked) → base₂ ≡ set base₁ b p → Walks (node_at d s m) u base₂ names k (b + 1) d u₂ base₃ r → Walks (two_at d s a) t base names n b (d + 1) u₂ base₃ r
+    pub two_concluded : (base₂ u₂ base₃ : List ℕ) (r : Result Walked Refusal) → base₂ ≡ set base₁ b w.conclusion → Walks (node_at d s w.next) u base₂ names w.size (b + 1) d u₂ base₃ r → Walks (two_at d s a) t base names n b (d + 1) u₂ base₃ r
     two_concluded base₂ u₂ base₃ r e W₂ =
         let W₃ = rw e at W₂ in
         record {
-          kept = kept_below base₁ base₃ b p W₃.kept ∙ W.kept;
-          meets = λ fs ps S used c next f room. two_meets fs ps S used c next f room u base₁ p m k W lu lb u₂ base₃ r W₃;
+          kept = kept_below base₁ base₃ b w.conclusion W₃.kept ∙ W.kept;
+          meets = λ fs ps S used c next f room. two_meets fs ps S used c next f room u base₁ w W lu lb u₂ base₃ r W₃;
         }

@@ -9,15 +9,15 @@ use Rattle.language.specs.Numbers.{Got, got, no}
 use Rattle.language.specs.Read.{sheet}
 use Rattle.language.specs.Check.{Certificate, certificate_at, own, checked, against, verdict}
 use Rattle.language.specs.Doors.{checked_numbers, verdict_numbers}
-use Rattle.language.specs.declared.Checked.{Checked}
-use Rattle.language.specs.declared.Checked.TheVariants.{Falls}
+use Rattle.std.specs.Prelude.{Result, Ok, Err}
+use Rattle.language.specs.Numbered.{number_of, numbered}
+use Rattle.language.specs.declared.refusal.Refusal.{Refusal}
+use Rattle.language.specs.declared.Stands.{Stands}
 use Rattle.theorems.proofs.Lists.{all_at}
 use Rattle.words.proofs.Fronts.{take_front, get_d_front}
 use Rattle.forms.specs.Table.{tree}
 use Rattle.records.specs.Reading.{Tables, reading}
 use Rattle.reader.specs.declared.Counts.{Counts}
-use Rattle.reader.specs.declared.SheetRead.{SheetRead}
-use Rattle.reader.specs.declared.SheetRead.TheVariants as sheet_read
 use Rattle.reader.specs.Laid.{Laid}
 use Rattle.reader.specs.Stands.{ReadAs, read, unread}
 use Rattle.reader.proofs.SheetSaying.{reading_sheet}
@@ -35,7 +35,7 @@ module _ (s : List ℕ) (ns₀ fs₀ ps₀ hs₀ bs₀ ns fs ps hs bs : List ℕ
   abbrev T : Tables
   T = (reading s).tables
 
-  module _ (r : SheetRead) (L : Laid s r ns₀ fs₀ ps₀ hs₀ bs₀ ns fs ps hs bs) where
+  module _ (r : Result Counts Refusal) (L : Laid s r ns₀ fs₀ ps₀ hs₀ bs₀ ns fs ps hs bs) where
     -- the buffers stand for the sheet's propositions and its base
     standing : (c : Counts) (O : Opened s c) → Standing fs bs c.words c.base O.stands.trees O.sheet_is.base
     standing c O =
@@ -54,9 +54,9 @@ module _ (s : List ℕ) (ns₀ fs₀ ps₀ hs₀ bs₀ ns fs ps hs bs : List ℕ
               rw e (omega arith, rw (← st.base) (sym (get_d_tree st.trees T.base j i)));
         }
 
-    pub sheet_ready : (c : Counts) → r ≡ sheet_read.Read c → length ns ≡ length ns₀ → length fs ≡ length fs₀ → length bs ≡ length bs₀ → Begun ns fs bs c.words c.base
+    pub sheet_ready : (c : Counts) → r ≡ Ok c → length ns ≡ length ns₀ → length fs ≡ length fs₀ → length bs ≡ length bs₀ → Begun ns fs bs c.words c.base
     sheet_ready c e a b d =
-        let O = opened s c (sym L.answered ∙ e) in
+        let O = opened s c (sym L.answered ∙ ap numbered e) in
         let w = O.words_many in
         let m = O.base_many in
         let few = O.stands.few in
@@ -70,20 +70,20 @@ module _ (s : List ℕ) (ns₀ fs₀ ps₀ hs₀ bs₀ ns fs ps hs bs : List ℕ
         }
 
     module _ (certificate : List ℕ) where
-      pub sheet_stops : (w p : ℕ) → r ≡ sheet_read.Refused w p → checked_numbers (Falls w p) ≡ verdict_numbers (verdict s certificate)
+      pub sheet_stops : (w : Refusal) → r ≡ Err w → checked_numbers (Err w) ≡ verdict_numbers (verdict s certificate)
       unfolding verdict against checked_numbers verdict_numbers
-      sheet_stops w p e = go (sheet s) refl (reading_sheet s)
+      sheet_stops w e = go (sheet s) refl (reading_sheet s)
         where
-          go : (g : Got Sheet) → sheet s ≡ g → ReadAs (reading s) g → checked_numbers (Falls w p) ≡ verdict_numbers (against certificate (sheet s))
-          go g z (read {S} {end} x st) = absurd (refused_not_read T (reading s).root w p S.root end (sym L.answered ∙ e) x)
+          go : (g : Got Sheet) → sheet s ≡ g → ReadAs (reading s) g → checked_numbers (Err w) ≡ verdict_numbers (against certificate (sheet s))
+          go g z (read {S} {end} x st) = absurd (refused_not_read T (reading s).root (number_of w.0) w.1 S.root end (sym L.answered ∙ ap numbered e) x)
           go g z (unread {n = n'} {p = p'} x) =
-              let (a, b) = refused_same T (reading s).root w p n' p' (sym L.answered ∙ e) x in
+              let (a, b) = refused_same T (reading s).root (number_of w.0) w.1 n' p' (sym L.answered ∙ ap numbered e) x in
               rw (z, a, b)
 
-      pub sheet_goes_on : (c : Counts) (x : Checked) → r ≡ sheet_read.Read c → Answers (certificate_at certificate) fs bs c.words c.base x →
+      pub sheet_goes_on : (c : Counts) (x : Result Stands Refusal) → r ≡ Ok c → Answers (certificate_at certificate) fs bs c.words c.base x →
           checked_numbers x ≡ verdict_numbers (verdict s certificate)
       unfolding verdict against
       sheet_goes_on c x e A =
-          let O = opened s c (sym L.answered ∙ e) in
+          let O = opened s c (sym L.answered ∙ ap numbered e) in
           A.answers O.stands.trees O.sheet_is.base (standing c O)
           ∙ ap verdict_numbers (in_base O.sheet_is (certificate_at certificate) ∙ sym (rw O.is))

@@ -4,6 +4,7 @@ use mathlib.Core.Path.{◌≡◌, refl, ◌∙◌}
 use mathlib.Core.Bool.{Bool, true, false}
 use mathlib.Core.List.{List}
 use lib.ListN.{length}
+use Rattle.std.specs.Prelude.{Result, Ok, Err}
 use lib.Dec.{eqb}
 use borrow.Author.Tests.{eq-eqb, ne_eqb}
 use Rattle.language.specs.Refusals.{bytes_after}
@@ -12,24 +13,23 @@ use Rattle.language.specs.Numbers.{Got, got, no, then, check, below}
 use Rattle.language.specs.Plain.{inferences}
 use Rattle.language.specs.Check.{Node, plain, node, Certificate}
 use Rattle.language.specs.declared.Inferences.{Inferences}
-use Rattle.checker.specs.declared.reading.NodesRead.TheVariants as nodes
-use Rattle.checker.specs.declared.reading.ProofRead.{ProofRead}
-use Rattle.checker.specs.declared.reading.ProofRead.TheVariants as proof
+use Rattle.checker.specs.declared.reading.NodesRead.{NodesRead}
+use Rattle.checker.specs.declared.reading.Stated.{Stated}
 use Rattle.checker.specs.Tally.{tallied, proof_at, ended_by, concluded_by, concluded_at, certified}
 use Rattle.checker.proofs.Tallies.{tally_read, tally_refused}
 
 -- the conclusion's number, and the end
 module _ (s : List ℕ) (count : ℕ) (rules : Inferences) (at : ℕ) where
-  pub conclusion_refused : (w p : ℕ) → below count s at ≡ no w p → proof.Refused w p ≡ concluded_at s count rules at
+  pub conclusion_refused : (w p : ℕ) → below count s at ≡ no w p → Err (w, p) ≡ concluded_at s count rules at
   unfolding concluded_at concluded_by
   conclusion_refused w p e = rw e
 
   module _ (k end : ℕ) (e : below count s at ≡ got k end) where
-    pub conclusion_read : end ≡ length s → proof.Read (record { rules = rules; conclusion = k; place = at }) ≡ concluded_at s count rules at
+    pub conclusion_read : end ≡ length s → Ok (record { rules = rules; conclusion = k; place = at }) ≡ concluded_at s count rules at
     unfolding concluded_at concluded_by ended_by
     conclusion_read h = rw (e, eq-eqb end (length s) h)
 
-    pub conclusion_goes_on : (end ≡ length s → ⊥) → proof.Refused bytes_after end ≡ concluded_at s count rules at
+    pub conclusion_goes_on : (end ≡ length s → ⊥) → Err (bytes_after, end) ≡ concluded_at s count rules at
     unfolding concluded_at concluded_by ended_by
     conclusion_goes_on h = rw (e, ne_eqb end (length s) h)
 
@@ -50,13 +50,13 @@ module _ (ps : List Form) (x : Node) (rules : Inferences) (place bytes : ℕ) (e
 
 -- the proof, then its conclusion
 module _ (s : List ℕ) (ps : List Form) (count at : ℕ) (l : length ps ≡ count) where
-  pub proof_refused : (w p : ℕ) → nodes.Refused w p ≡ tallied (node 512 s ps 0 at) → proof.Refused w p ≡ certified (proof_at s ps at)
+  pub proof_refused : (w p : ℕ) → Err (w, p) ≡ tallied (node 512 s ps 0 at) → Err (w, p) ≡ certified (proof_at s ps at)
   unfolding proof_at then certified
   proof_refused w p f = rw (tally_refused (node 512 s ps 0 at) w p f)
 
-  pub proof_read : (all : ℕ) (rules : Inferences) (place : ℕ) (r : ProofRead) → nodes.Read all rules place ≡ tallied (node 512 s ps 0 at) → r ≡ concluded_at s count rules place → r ≡ certified (proof_at s ps at)
+  pub proof_read : (x : NodesRead) (r : Result Stated (ℕ × ℕ)) → Ok x ≡ tallied (node 512 s ps 0 at) → r ≡ concluded_at s count x.rules x.next → r ≡ certified (proof_at s ps at)
   unfolding proof_at then concluded_at
-  proof_read all rules place r f g =
-      let T = tally_read (node 512 s ps 0 at) all rules place f in
-      let h : r ≡ concluded_by rules place (length s) (below (length ps) s place) = rw l g in
-      rw T.is (h ∙ concluded_same ps T.counted.node rules place (length s) T.inferred (below (length ps) s place))
+  proof_read x r f g =
+      let T = tally_read (node 512 s ps 0 at) x f in
+      let h : r ≡ concluded_by x.rules x.next (length s) (below (length ps) s x.next) = rw l g in
+      rw T.is (h ∙ concluded_same ps T.counted.node x.rules x.next (length s) T.inferred (below (length ps) s x.next))

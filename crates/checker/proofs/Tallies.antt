@@ -3,6 +3,7 @@ use Prim.Native.Nat.{ℕ, zero, suc, ◌+◌, ◌-◌, ◌≤◌, ◌<◌}
 use mathlib.Core.Path.{◌≡◌, refl, ap, ◌∙◌}
 use mathlib.Core.List.{List, [], ◌∷◌, ◌++◌}
 use native.Mathlib.Omega.{arith}
+use Rattle.std.specs.Prelude.{Result, Ok, Err}
 use lib.ListN.{length, get_or, replicate, length-replicate}
 use borrow.Author.Tests.{lt-ltb, le-ltb}
 use Rattle.language.specs.Refusals.{certificate_over}
@@ -12,13 +13,11 @@ use Rattle.language.specs.Numbers.{Got, got, no, then, check, from, below, times
 use Rattle.language.specs.Read.{reference}
 use Rattle.language.specs.Plain.{inferences}
 use Rattle.language.specs.Check.{plain, Counted, under_n, ReadNode, rule_node, inner, node}
-use Rattle.language.specs.declared.Inferences.{Inferences}
-use Rattle.numbers.specs.declared.Number.TheVariants as number
+use Rattle.records.specs.Answers.{closed}
 use Rattle.checker.specs.declared.reading.NodesRead.{NodesRead}
-use Rattle.checker.specs.declared.reading.NodesRead.TheVariants as nodes
 use Rattle.checker.specs.Places.{value_at, next_at}
 use Rattle.checker.specs.Walk.{rest_by, two_at, under_at}
-use Rattle.checker.specs.Tally.{referred, tallied}
+use Rattle.checker.specs.Tally.{inferred, tallied}
 use Rattle.checker.proofs.Nodes.{rule_read, two_read, under_read, opened}
 
 -- no refusal is a reading
@@ -26,34 +25,45 @@ never : {A : Type 0} → ◌≡◌ {A = ℕ} 0 1 → A
 never e = absurd (omega arith)
 
 -- what a tally tells of the reading behind it
-pub record Tally (g : Got Counted) (count : ℕ) (rules : Inferences) (next : ℕ) : Type 0 where
+pub record Tally (g : Got Counted) (r : NodesRead) : Type 0 where
   pub counted : Counted
-  pub is : g ≡ got counted next
-  pub nodes : counted.nodes ≡ count
-  pub inferred : inferences (plain counted.node) ≡ rules.0
+  pub is : g ≡ got counted r.next
+  pub nodes : counted.nodes ≡ r.nodes
+  pub inferred : inferences (plain counted.node) ≡ r.rules.0
 
-pub tally_read : (g : Got Counted) (count : ℕ) (rules : Inferences) (next : ℕ) → nodes.Read count rules next ≡ tallied g → Tally g count rules next
+pub tally_read : (g : Got Counted) (r : NodesRead) → Ok r ≡ tallied g → Tally g r
 unfolding tallied
-tally_read (got c m) count rules next e =
-    let z : m ≡ next = cc in
-    record { counted = c; is = ap (got c) z; nodes = cc; inferred = cc }
-tally_read (no w p) count rules next e = never cc
+tally_read (got c m) r e =
+    let z : ◌≡◌ {A = NodesRead} (record { nodes = c.nodes; rules = inferred c.node; next = m }) r = cc in
+    record {
+      counted = c;
+      is = ap (λ (x : NodesRead). got c x.next) z;
+      nodes = ap (λ (x : NodesRead). x.nodes) z;
+      inferred = ap (λ (x : NodesRead). x.rules.0) z;
+    }
+tally_read (no w p) r e = never cc
 
-pub tally_refused : (g : Got Counted) (w p : ℕ) → nodes.Refused w p ≡ tallied g → g ≡ no w p
+-- one refusal
+pub err_both : {A : Type 0} (w p w' p' : ℕ) → ◌≡◌ {A = Result A (ℕ × ℕ)} (Err (w, p)) (Err (w', p')) → (w ≡ w') × (p ≡ p')
+err_both w p w' p' e =
+    let f : (w, p) ≡ (w', p') = cc in
+    (ap (λ (x : ℕ × ℕ). x.0) f, ap (λ (x : ℕ × ℕ). x.1) f)
+
+pub tally_refused : (g : Got Counted) (w p : ℕ) → Err (w, p) ≡ tallied g → g ≡ no w p
 unfolding tallied
 tally_refused (got c m) w p e = never cc
-tally_refused (no w' p') w p e = let a : w' ≡ w = cc in let b : p' ≡ p = cc in rw (a, b)
+tally_refused (no w' p') w p e = let h = err_both w p w' p' e in rw (h.0, h.1)
 
 -- the same of references
-referred_read : (k : ℕ) (g : Got (List Form)) (v next : ℕ) → number.Got v next ≡ referred k g → (xs : List Form) × (g ≡ got xs next)
-unfolding referred
-referred_read k (got xs m) v next e = let z : m ≡ next = cc in (xs, ap (got xs) z)
-referred_read k (no w p) v next e = never cc
+referred_read : (g : Got (List Form)) (next : ℕ) → got tt next ≡ closed g → (xs : List Form) × (g ≡ got xs next)
+unfolding closed
+referred_read (got xs m) next e = let z : m ≡ next = cc in (xs, ap (got xs) z)
+referred_read (no w p) next e = never cc
 
-referred_refused : (k : ℕ) (g : Got (List Form)) (w p : ℕ) → number.Refused w p ≡ referred k g → g ≡ no w p
-unfolding referred
-referred_refused k (got xs m) w p e = never cc
-referred_refused k (no w' p') w p e = let a : w' ≡ w = cc in let b : p' ≡ p = cc in rw (a, b)
+referred_refused : (g : Got (List Form)) (w p : ℕ) → no w p ≡ closed g → g ≡ no w p
+unfolding closed
+referred_refused (got xs m) w p e = never cc
+referred_refused (no w' p') w p e = let a : w' ≡ w = cc in let b : p' ≡ p = cc in rw (a, b)
 
 -- references in a row: what is left after i of them, from `next` on
 module _ (s : List ℕ) (count k at : ℕ) where
@@ -84,16 +94,16 @@ module _ (s : List ℕ) (count k at : ℕ) where
                 (w.0 ++ (get_or ps v verum ∷ []), w.1 ∙ step ps w.0 ∙ rw f);
           }
 
-      pub referring_refused : (w p : ℕ) → below count s next ≡ no w p → (ps : List Form) → length ps ≡ count → number.Refused w p ≡ referred k (times k (refs ps) [] at)
-      unfolding reference then referred
+      pub referring_refused : (w p : ℕ) → below count s next ≡ no w p → (ps : List Form) → length ps ≡ count → no w p ≡ closed (times k (refs ps) [] at)
+      unfolding reference then closed
       referring_refused w p e ps l =
           let x = R.same ps l in
           let f : below (length ps) s next ≡ no w p = rw l e in
           let g : times k (refs ps) [] at ≡ no w p = x.1 ∙ step ps x.0 ∙ rw f in
           rw g
 
-    pub referring_all : k ≤ i → (ps : List Form) → length ps ≡ count → number.Got k next ≡ referred k (times k (refs ps) [] at)
-    unfolding times referred
+    pub referring_all : k ≤ i → (ps : List Form) → length ps ≡ count → got tt next ≡ closed (times k (refs ps) [] at)
+    unfolding times closed
     referring_all h ps l =
         let x = R.same ps l in
         let z : k - i ≡ 0 = omega arith in
@@ -102,34 +112,34 @@ module _ (s : List ℕ) (count k at : ℕ) where
 
 -- a rule and its arguments
 module _ (s : List ℕ) (used a : ℕ) where
-  pub rule_refused : (w p : ℕ) → from 0 15 s a ≡ no w p → (ps : List Form) (at : ℕ) → nodes.Refused w p ≡ tallied (rule_node s ps used at a)
+  pub rule_refused : (w p : ℕ) → from 0 15 s a ≡ no w p → (ps : List Form) (at : ℕ) → Err (w, p) ≡ tallied (rule_node s ps used at a)
   unfolding rule_node then tallied
   rule_refused w p e ps at = rw e
 
   module _ (rule next : ℕ) (e : from 0 15 s a ≡ got rule next) (k : ℕ) (ek : k ≡ get_or arity rule 0) (ps : List Form) (at : ℕ) where
-    pub arguments_refused : (w p : ℕ) → number.Refused w p ≡ referred k (times k (λ acc. reference s ps) [] next) → nodes.Refused w p ≡ tallied (rule_node s ps used at a)
+    pub arguments_refused : (w p : ℕ) → no w p ≡ closed (times k (λ acc. reference s ps) [] next) → Err (w, p) ≡ tallied (rule_node s ps used at a)
     unfolding rule_node then tallied
     arguments_refused w p f =
-        let g = referred_refused k (times k (λ acc. reference s ps) [] next) w p f in
+        let g = referred_refused (times k (λ acc. reference s ps) [] next) w p f in
         let h = rw ek at g in
         rw (e, h)
 
-    pub rule_tallied : (v end : ℕ) → number.Got v end ≡ referred k (times k (λ acc. reference s ps) [] next) → nodes.Read (used + 1) (record { 0 = 1 }) end ≡ tallied (rule_node s ps used at a)
+    pub rule_tallied : (end : ℕ) → got tt end ≡ closed (times k (λ acc. reference s ps) [] next) → Ok (record { nodes = used + 1; rules = record { 0 = 1 }; next = end }) ≡ tallied (rule_node s ps used at a)
     unfolding rule_node then tallied inferences plain
-    rule_tallied v end f =
-        let g = referred_read k (times k (λ acc. reference s ps) [] next) v end f in
+    rule_tallied end f =
+        let g = referred_read (times k (λ acc. reference s ps) [] next) end f in
         let h : times (get_or arity rule 0) (λ acc. reference s ps) [] next ≡ got g.0 end = rw (← ek) g.1 in
         rw (e, h)
 
 -- a node: its kind, its limits, its rest
 module _ (s : List ℕ) (ps : List Form) (used at : ℕ) where
-  pub kind_refused : (d w p : ℕ) → from 0 2 s at ≡ no w p → nodes.Refused w p ≡ tallied (node d s ps used at)
+  pub kind_refused : (d w p : ℕ) → from 0 2 s at ≡ no w p → Err (w, p) ≡ tallied (node d s ps used at)
   unfolding node then tallied
   kind_refused zero w p e = rw e
   kind_refused (suc d) w p e = rw e
 
   module _ (kind a : ℕ) (e : from 0 2 s at ≡ got kind a) where
-    pub rest_tallied : (d : ℕ) (r : NodesRead) → 0 < d → used < 7168 → r ≡ tallied (rest_by (node (d - 1) s ps) s ps used at kind a) → r ≡ tallied (node d s ps used at)
+    pub rest_tallied : (d : ℕ) (r : Result NodesRead (ℕ × ℕ)) → 0 < d → used < 7168 → r ≡ tallied (rest_by (node (d - 1) s ps) s ps used at kind a) → r ≡ tallied (node d s ps used at)
     unfolding node then check
     rest_tallied zero r h g f = absurd (omega arith)
     rest_tallied (suc d) r h g f =
@@ -137,23 +147,23 @@ module _ (s : List ℕ) (ps : List Form) (used at : ℕ) where
         let x : r ≡ tallied (rest_by (node d s ps) s ps used at kind a) = f ∙ ap (λ (m : ℕ). tallied (rest_by (node m s ps) s ps used at kind a)) z in
         rw (e, lt-ltb used 7168 g) x
 
-    pub no_nesting : (d : ℕ) → d ≤ 0 → nodes.Refused certificate_over at ≡ tallied (node d s ps used at)
+    pub no_nesting : (d : ℕ) → d ≤ 0 → Err (certificate_over, at) ≡ tallied (node d s ps used at)
     unfolding node then tallied
     no_nesting zero h = rw e
     no_nesting (suc d) h = absurd (omega arith)
 
-    pub no_nodes : (d : ℕ) → 7168 ≤ used → nodes.Refused certificate_over at ≡ tallied (node d s ps used at)
+    pub no_nodes : (d : ℕ) → 7168 ≤ used → Err (certificate_over, at) ≡ tallied (node d s ps used at)
     unfolding node then check tallied
     no_nodes zero h = rw e
     no_nodes (suc d) h = rw (e, le-ltb used 7168 h)
 
 -- the rest by its kind
-module _ (R : ReadNode) (s : List ℕ) (ps : List Form) (used at kind a : ℕ) (r : NodesRead) where
+module _ (R : ReadNode) (s : List ℕ) (ps : List Form) (used at kind a : ℕ) (r : Result NodesRead (ℕ × ℕ)) where
   pub rest_rule : kind ≡ 0 → r ≡ tallied (rule_node s ps used at a) → r ≡ tallied (rest_by R s ps used at kind a)
   unfolding inner
   rest_rule e f = rw e f
 
-module _ (d : ℕ) (s : List ℕ) (ps : List Form) (used at kind a : ℕ) (r : NodesRead) where
+module _ (d : ℕ) (s : List ℕ) (ps : List Form) (used at kind a : ℕ) (r : Result NodesRead (ℕ × ℕ)) where
   pub rest_two : kind ≡ 1 → r ≡ tallied (two_at d s a ps used) → r ≡ tallied (rest_by (node d s ps) s ps used at kind a)
   unfolding inner two_at
   rest_two e f = rw e f
@@ -164,34 +174,35 @@ module _ (d : ℕ) (s : List ℕ) (ps : List Form) (used at kind a : ℕ) (r : N
 
 -- two nodes
 module _ (d : ℕ) (s : List ℕ) (ps : List Form) (used a : ℕ) where
-  pub first_refused : (w p : ℕ) → nodes.Refused w p ≡ tallied (node d s ps (used + 1) a) → nodes.Refused w p ≡ tallied (two_at d s a ps used)
+  pub first_refused : (w p : ℕ) → Err (w, p) ≡ tallied (node d s ps (used + 1) a) → Err (w, p) ≡ tallied (two_at d s a ps used)
   unfolding two_at then tallied
   first_refused w p f = rw (tally_refused (node d s ps (used + 1) a) w p f)
 
-  module _ (count : ℕ) (rules : Inferences) (next : ℕ) (f : nodes.Read count rules next ≡ tallied (node d s ps (used + 1) a)) where
-    pub second_refused : (w p : ℕ) → nodes.Refused w p ≡ tallied (node d s ps count next) → nodes.Refused w p ≡ tallied (two_at d s a ps used)
+  module _ (one : NodesRead) (f : Ok one ≡ tallied (node d s ps (used + 1) a)) where
+    pub second_refused : (w p : ℕ) → Err (w, p) ≡ tallied (node d s ps one.nodes one.next) → Err (w, p) ≡ tallied (two_at d s a ps used)
     unfolding two_at then tallied
     second_refused w p g =
-        let x = tally_read (node d s ps (used + 1) a) count rules next f in
-        let y = tally_refused (node d s ps count next) w p g in
+        let x = tally_read (node d s ps (used + 1) a) one f in
+        let y = tally_refused (node d s ps one.nodes one.next) w p g in
         rw (x.is, x.nodes, y)
 
-    pub two_tallied : (all : ℕ) (more : Inferences) (end : ℕ) → nodes.Read all more end ≡ tallied (node d s ps count next) → nodes.Read all (record { 0 = rules.0 + more.0 }) end ≡ tallied (two_at d s a ps used)
+    pub two_tallied : (two : NodesRead) → Ok two ≡ tallied (node d s ps one.nodes one.next) →
+        Ok (record { nodes = two.nodes; rules = record { 0 = one.rules.0 + two.rules.0 }; next = two.next }) ≡ tallied (two_at d s a ps used)
     unfolding two_at then tallied inferences plain
-    two_tallied all more end g =
-        let x = tally_read (node d s ps (used + 1) a) count rules next f in
-        let y = tally_read (node d s ps count next) all more end g in
+    two_tallied two g =
+        let x = tally_read (node d s ps (used + 1) a) one f in
+        let y = tally_read (node d s ps one.nodes one.next) two g in
         rw (x.is, x.nodes, y.is, x.inferred, y.nodes, y.inferred)
 
 -- a hypothesis and a node
 module _ (d : ℕ) (s : List ℕ) (used a : ℕ) (ps : List Form) (count : ℕ) (l : length ps ≡ count) where
-  pub hypothesis_refused : (w p : ℕ) → below count s a ≡ no w p → nodes.Refused w p ≡ tallied (under_at d s a ps used)
+  pub hypothesis_refused : (w p : ℕ) → below count s a ≡ no w p → Err (w, p) ≡ tallied (under_at d s a ps used)
   unfolding under_at reference then tallied
   hypothesis_refused w p e =
       let f : below (length ps) s a ≡ no w p = rw l e in
       rw f
 
-  pub under_tallied : (v next : ℕ) (r : NodesRead) → below count s a ≡ got v next → r ≡ tallied (node d s ps (used + 1) next) → r ≡ tallied (under_at d s a ps used)
+  pub under_tallied : (v next : ℕ) (r : Result NodesRead (ℕ × ℕ)) → below count s a ≡ got v next → r ≡ tallied (node d s ps (used + 1) next) → r ≡ tallied (under_at d s a ps used)
   unfolding under_at reference then tallied inferences plain
   under_tallied v next r e g =
       let f : below (length ps) s a ≡ got v next = rw l e in
@@ -237,11 +248,11 @@ node_within (suc d) s ps used at c next e =
     rest_within d s ps (node_within d s ps) used at c next (value_at s at) (next_at s at) o.limit o.kind f
 
 -- a tally over every listing of a length is one of some listing
-pub rules_few : (d : ℕ) (s : List ℕ) (length_is used at count : ℕ) (rules : Inferences) (next : ℕ) → ((ps : List Form) → length ps ≡ length_is → nodes.Read count rules next ≡ tallied (node d s ps used at)) → rules.0 ≤ 7168
-rules_few d s n used at count rules next h =
+pub rules_few : (d : ℕ) (s : List ℕ) (length_is used at : ℕ) (r : NodesRead) → ((ps : List Form) → length ps ≡ length_is → Ok r ≡ tallied (node d s ps used at)) → r.rules.0 ≤ 7168
+rules_few d s n used at r h =
     let ps : List Form = replicate n verum in
-    let x = tally_read (node d s ps used at) count rules next (h ps (length-replicate n verum)) in
-    let w = node_within d s ps used at x.counted next x.is in
+    let x = tally_read (node d s ps used at) r (h ps (length-replicate n verum)) in
+    let w = node_within d s ps used at x.counted r.next x.is in
     let a = w.rules in
     let b = w.limit in
     let e = x.inferred in

@@ -1,11 +1,12 @@
 -- A certificate against a base, part by part: what the functions of the door ask, and what they answer.
-use Rattle.std.specs.Prelude.{ℕ, ◌+◌, ◌≤◌, ◌<◌, ◌≡◌, List, [], ◌∷◌, length, get_or, take}
+use Rattle.std.specs.Prelude.{ℕ, ◌+◌, ◌≤◌, ◌<◌, ◌≡◌, List, [], ◌∷◌, length, get_or, take, Result}
 use Rattle.language.specs.Form.{Form, verum}
 use Rattle.language.specs.Numbers.{Got, got, no, then, times}
 use Rattle.language.specs.Read.{proposition}
 use Rattle.language.specs.Check.{Certificate, Verdict, falls, concluded, stated}
 use Rattle.language.specs.Doors.{checked_numbers, verdict_numbers, Checking, checking}
-use Rattle.language.specs.declared.Checked.{Checked}
+use Rattle.language.specs.declared.refusal.Refusal.{Refusal}
+use Rattle.language.specs.declared.Stands.{Stands}
 use Rattle.forms.specs.Table.{tree, Table}
 use Rattle.rules.specs.Base.{base_of}
 use Rattle.checker.specs.Walk.{Setting}
@@ -40,7 +41,7 @@ pub record Begun (names forms base : List ℕ) (n b : ℕ) : Type 0 where
   pub fixed : Fixed names forms base n b
 
 -- whatever they stand for, the answer is the verdict there on what a reading gives
-pub record Answers (read : Got Certificate) (forms base : List ℕ) (n b : ℕ) (r : Checked) : Type 0 where
+pub record Answers (read : Got Certificate) (forms base : List ℕ) (n b : ℕ) (r : Result Stands Refusal) : Type 0 where
   pub answers : (fs β : List Form) → Standing forms base n b fs β → checked_numbers r ≡ verdict_numbers (verdict_in β read)
 
 -- the listed propositions and the proof, from a place on
@@ -57,7 +58,7 @@ pub record Listed (names forms base : List ℕ) (n b count : ℕ) : Type 0 where
   pub small : n + 7168 ≤ 16384
 
 -- whatever the names stand for, the answer is the verdict on the proof over that listing
-pub record ProofAnswers (s : List ℕ) (at : ℕ) (names forms base : List ℕ) (n b count : ℕ) (r : Checked) : Type 0 where
+pub record ProofAnswers (s : List ℕ) (at : ℕ) (names forms base : List ℕ) (n b count : ℕ) (r : Result Stands Refusal) : Type 0 where
   pub answers : (fs ps : List Form) → Setting forms base names n b 512 fs ps → length ps ≡ count →
       checked_numbers r ≡ verdict_numbers (verdict_in (base_of fs base b) (proof_at s ps at))
 
@@ -74,5 +75,5 @@ pub record Lengths (names forms patterns phrases base : List ℕ) : Type 0 where
   pub base_long : length base ≡ 576
 
 -- the door's answer and its buffers are the definitions', for every input
-pub record Checks (sheet certificate : List ℕ) (r : Checked) (ns₀ fs₀ ps₀ hs₀ bs₀ ns fs ps hs bs : List ℕ) : Type 0 where
+pub record Checks (sheet certificate : List ℕ) (r : Result Stands Refusal) (ns₀ fs₀ ps₀ hs₀ bs₀ ns fs ps hs bs : List ℕ) : Type 0 where
   pub checks : ◌≡◌ {A = Checking} (record { numbers = checked_numbers r; scratch = scratch ns fs ps hs bs }) (checking sheet certificate (scratch ns₀ fs₀ ps₀ hs₀ bs₀))

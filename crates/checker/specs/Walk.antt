@@ -1,5 +1,5 @@
 -- What a proof's second reading asks and answers, by the definition's own reading of it.
-use Rattle.std.specs.Prelude.{ℕ, ◌+◌, ◌<◌, ◌≤◌, ◌≡◌, List, ◌++◌, length, get_or, take}
+use Rattle.std.specs.Prelude.{ℕ, ◌+◌, ◌<◌, ◌≤◌, ◌≡◌, List, ◌++◌, length, get_or, take, Result, Ok, Err}
 use Rattle.language.specs.Refusals.{out_of_range}
 use Rattle.language.specs.Form.{Form, verum}
 use Rattle.language.specs.Numbers.{Got, got, no, then}
@@ -7,11 +7,9 @@ use Rattle.language.specs.Read.{reference}
 use Rattle.language.specs.Check.{seq_n, under_n, Counted, ReadNode, rule_node, inner, node, concluded}
 use Rattle.forms.specs.Table.{tree, Table}
 use Rattle.rules.specs.Base.{base_of}
-use Rattle.rules.specs.declared.Applied.{Applied}
-use Rattle.rules.specs.declared.Applied.TheVariants.{Given, Misshapen, Missing}
-use Rattle.rules.specs.Applied.{applied_number}
+use Rattle.language.specs.Numbered.{number_of}
+use Rattle.language.specs.declared.refusal.Refusal.{Refusal}
 use Rattle.checker.specs.declared.walking.Walked.{Walked}
-use Rattle.checker.specs.declared.walking.Walked.TheVariants.{Concluded, Refused}
 
 -- reading a node, or its rest, over a listing and after so many nodes
 abbrev pub Reading : Type 0
@@ -75,21 +73,15 @@ pub record Derived (t : List ℕ) (fs : List Form) (n used nodes p k : ℕ) (q :
   pub is : tree (fs ++ more) p ≡ q
   pub paid : k + used ≤ n + nodes
 
--- a rule's answer as its node's
-unfoldable pub walked_of : ℕ → ℕ → Applied → Walked
-walked_of at next (Given p m) = Concluded p next m
-walked_of at next Misshapen = Refused (applied_number Misshapen) at
-walked_of at next Missing = Refused (applied_number Missing) at
-
 -- a walk that ends at `next` answers what the definition concludes
-abbrev pub Meets : List ℕ → List Form → ℕ → ℕ → ℕ → ℕ → Walked → Got Form → Type 0
-Meets t fs n used nodes next (Concluded p m k) (got q at) = (m ≡ next) × Derived t fs n used nodes p k q
-Meets t fs n used nodes next (Concluded p m k) (no why place) = ⊥
-Meets t fs n used nodes next (Refused w l) (got q at) = ⊥
-Meets t fs n used nodes next (Refused w l) (no why place) = (w ≡ why) × (l ≡ place)
+abbrev pub Meets : List ℕ → List Form → ℕ → ℕ → ℕ → ℕ → Result Walked Refusal → Got Form → Type 0
+Meets t fs n used nodes next (Ok w) (got q at) = (w.next ≡ next) × Derived t fs n used nodes w.conclusion w.size q
+Meets t fs n used nodes next (Ok w) (no why place) = ⊥
+Meets t fs n used nodes next (Err r) (got q at) = ⊥
+Meets t fs n used nodes next (Err r) (no why place) = (number_of r.0 ≡ why) × (r.1 ≡ place)
 
 -- the base below is kept; and whatever was read is answered as the definition concludes it
-pub record Walks (read : Reading) (t₀ base₀ names : List ℕ) (n b deep : ℕ) (t base : List ℕ) (r : Walked) : Type 0 where
+pub record Walks (read : Reading) (t₀ base₀ names : List ℕ) (n b deep : ℕ) (t base : List ℕ) (r : Result Walked Refusal) : Type 0 where
   pub kept : take b base ≡ take b base₀
   pub meets : (fs ps : List Form) → Setting t₀ base₀ names n b deep fs ps →
       (used : ℕ) (c : Counted) (next : ℕ) → read ps used ≡ got c next → Room t₀ n used c.nodes →

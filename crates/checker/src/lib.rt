@@ -11,12 +11,8 @@ ghost use Rattle.language.specs.Check.{certificate_at, verdict};
 ghost use Rattle.checker.specs.Judge.{Stating, Judged};
 ghost use Rattle.checker.specs.Verdicts.{scratch, Lengths, Checks, Begun, Answers, listing_at, Listed, ProofAnswers};
 
-use language::{Checked, refusal};
-use numbers::Number;
-use reader::SheetRead;
-use reading::{ProofRead, Stated};
-use records::Ended;
-use walking::Walked;
+use language::{Refusal, Stands, Why};
+use reading::Stated;
 
 mod reading;
 mod walking;
@@ -51,11 +47,11 @@ pub fn check(
     patterns: &mut [u32],
     phrases: &mut [u32],
     base: &mut [u32],
-) -> Checked
+) -> Result<Stands, Refusal>
     ensures { Checks sheet.now certificate.now result names.old forms.old patterns.old phrases.old base.old names.new forms.new patterns.new phrases.new base.new }
 {
     if is_short(names, forms, patterns, phrases, base) {
-        return Checked::Falls(refusal::SCRATCH_SHORT, 0);
+        return Err(Refusal(Why::ScratchShort, 0));
     }
     let r = answer(
         &mut names[..NAMES],
@@ -74,22 +70,11 @@ pub fn check(
 fn is_short(names: &[u32], forms: &[u32], patterns: &[u32], phrases: &[u32], base: &[u32]) -> bool
     ensures { not result ≡ enough check_lengths (scratch names.now forms.now patterns.now phrases.now base.now) }
 {
-    if names.len() < NAMES {
-        return true;
-    }
-    if forms.len() < FORMS {
-        return true;
-    }
-    if patterns.len() < PATTERNS {
-        return true;
-    }
-    if phrases.len() < PHRASES {
-        return true;
-    }
-    if base.len() < BASE {
-        return true;
-    }
-    false
+    names.len() < NAMES
+        || forms.len() < FORMS
+        || patterns.len() < PATTERNS
+        || phrases.len() < PHRASES
+        || base.len() < BASE
 }
 
 // Each buffer zero up to its fixed length.
@@ -119,14 +104,12 @@ fn answer(
     base: &mut [u32],
     sheet: &[u8],
     certificate: &[u8],
-) -> Checked
+) -> Result<Stands, Refusal>
     requires { Lengths names.old forms.old patterns.old phrases.old base.old }
     ensures { checked_numbers result ≡ verdict_numbers (verdict sheet.now certificate.now) }
 {
-    match reader::read_sheet(names, forms, patterns, phrases, base, sheet) {
-        SheetRead::Refused(why, place) => Checked::Falls(why, place),
-        SheetRead::Read(c) => against(names, forms, base, certificate, c.words, c.base),
-    }
+    let c = reader::read_sheet(names, forms, patterns, phrases, base, sheet)?;
+    against(names, forms, base, certificate, c.words, c.base)
 }
 
 // A certificate in the base that the sheet's reading left: the first n words of the table and the first b numbers of the base.
@@ -137,14 +120,12 @@ fn against(
     s: &[u8],
     n: usize,
     b: usize,
-) -> Checked
+) -> Result<Stands, Refusal>
     requires { Begun names.old forms.old base.old n b }
     ensures { Answers (certificate_at s.now) forms.old base.old n b result }
 {
-    match numbers::read_from(s, 0, 0, LISTED) {
-        Number::Refused(why, place) => Checked::Falls(reading::own(why), place),
-        Number::Got(count, at) => over_listing(names, forms, base, s, n, b, count, at),
-    }
+    let (count, at) = numbers::read_from(s, 0, 0, LISTED).map_err(reading::own)?;
+    over_listing(names, forms, base, s, n, b, count, at)
 }
 
 // So many listed propositions, then the proof over them.
@@ -157,16 +138,13 @@ fn over_listing(
     b: usize,
     count: usize,
     at: usize,
-) -> Checked
+) -> Result<Stands, Refusal>
     requires { Begun names.old forms.old base.old n b × (count ≤ 4608) }
     ensures { Answers (listing_at s.now count at) forms.old base.old n b result }
 {
     let listed = reader::read_propositions(names, forms, s, count, n, at);
-    let ended = listed.ended;
-    match ended {
-        Ended::Refused(why, place) => Checked::Falls(reading::own(why), place),
-        Ended::At(next) => over_proof(forms, base, s, names, listed.words, b, count, next),
-    }
+    let next = listed.ended.map_err(reading::own)?;
+    over_proof(forms, base, s, names, listed.words, b, count, next)
 }
 
 // The proof over a listing of so many propositions, read and then judged.
@@ -179,14 +157,12 @@ fn over_proof(
     b: usize,
     count: usize,
     at: usize,
-) -> Checked
+) -> Result<Stands, Refusal>
     requires { Listed names.now forms.old base.old n b count }
     ensures { ProofAnswers s.now at names.now forms.old base.old n b count result }
 {
-    match reading::read_proof(s, count, at) {
-        ProofRead::Refused(why, place) => Checked::Falls(reading::own(why), place),
-        ProofRead::Read(stated) => judge(forms, base, s, names, n, b, at, stated),
-    }
+    let stated = reading::read_proof(s, count, at).map_err(reading::own)?;
+    judge(forms, base, s, names, n, b, at, stated)
 }
 
 // The proof at `at`, which was read and found in order, in the base: what it concludes against what is stated.
@@ -199,18 +175,16 @@ fn judge(
     b: usize,
     at: usize,
     stated: Stated,
-) -> Checked
+) -> Result<Stands, Refusal>
     requires { Stating t.old base.old s.now names.now n b at stated }
     ensures { Judged t.old base.old s.now names.now n b at stated result }
 {
-    match walking::walk(t, base, s, names, n, b, NESTED, at) {
-        Walked::Refused(why, place) => Checked::Falls(why, place),
-        Walked::Concluded(p, next, size) => {
-            if p == words::at(names, stated.conclusion) {
-                let rules = stated.rules;
-                return Checked::Stands(stated.conclusion, rules);
-            }
-            Checked::Falls(refusal::STATED_DIFFERS, stated.place)
-        }
+    let w = walking::walk(t, base, s, names, n, b, NESTED, at)?;
+    if w.conclusion == words::at(names, stated.conclusion) {
+        return Ok(Stands {
+            conclusion: stated.conclusion,
+            inferences: stated.rules,
+        });
     }
+    Err(Refusal(Why::StatedDiffers, stated.place))
 }

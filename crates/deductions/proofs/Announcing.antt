@@ -1,4 +1,5 @@
 -- By: the deduction, then the announced proposition. One law for each return.
+use Rattle.std.specs.Prelude.{Result}
 use mathlib.Core.Path.{◌≡◌, refl, sym, ap, subst, ◌∙◌}
 use mathlib.Core.Bool.{Bool, true, false}
 use mathlib.Core.List.{List, [], ◌++◌, append_assoc, append-nil}
@@ -7,6 +8,7 @@ use native.Mathlib.Omega.{arith}
 use native.Mathlib.Nat.{le_refl}
 use lib.Dec.{eqb}
 use Rattle.language.specs.Refusals.{wrong_kind, announced_differs}
+use Rattle.language.specs.declared.refusal.Refusal.{Refusal}
 use Rattle.language.specs.Form.{Form, same}
 use Rattle.language.specs.Values.{Val, Env, Out, out, next, must, as_form}
 use Rattle.language.specs.Run.{evaluate, Derived, deduced, deduce_step, deduce}
@@ -22,7 +24,7 @@ use Rattle.expressions.specs.declared.State.{State}
 use Rattle.expressions.specs.Machine.{Shared, mk as mkE, done, refused as refusedE, kind, one, two}
 use Rattle.expressions.specs.Asked.{Text, Row, Ready as ReadyE}
 use Rattle.expressions.specs.Meets.{Evaluated}
-use Rattle.deductions.specs.declared.Conclusion.{Conclusion}
+use Rattle.deductions.specs.declared.Progress.{Progress}
 use Rattle.deductions.specs.Machine.{M, inner, remaining, moved, concluded, refused, out_of, compared_by, compared_of}
 use Rattle.deductions.specs.Asked.{In, Setting, Ready}
 use Rattle.deductions.specs.Meets.{Grew, Meets, Deduced, Stepped}
@@ -150,7 +152,7 @@ module _ (s : Shared) (d env b k f j : ℕ) (m : M) (is : kind s.phrases k ≡ 2
       compared fs more more₂ told y X (Method o) rows g c T g₂ s₂ =
           subst (Meets 4 4 11 b m fs (refused wrong_kind k)) (sym (no_proposition rows ((fs ++ more) ++ more₂) u st.bindings X (Method o) k _ s₂ (λ z. omega arith))) (refl, refl)
 
-      pub by_is : (v : Value) (c : Conclusion) → Evaluated s d env f (inner m₁) (done v (mkE t u st)) → c ≡ compared_of v st m₁.at.tokens q k → Stepped s d env b k m (out_of t u m₁.base m₁.tokens c)
+      pub by_is : (v : Value) (c : Result (ℕ × Progress) Refusal) → Evaluated s d env f (inner m₁) (done v (mkE t u st)) → c ≡ compared_of v st m₁.at.tokens q k → Stepped s d env b k m (out_of t u m₁.base m₁.tokens c)
       unfolding next
       by_is v c A i = record {
         meets = λ x fs e β S l.

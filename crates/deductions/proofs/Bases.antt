@@ -1,4 +1,5 @@
 -- A base is a set on a stack: it grows from the top, and lemmas may join it in any order.
+use Rattle.std.specs.Prelude.{Option, Some, None}
 use Prim.Native.Nat.{ℕ, ◌+◌, ◌≤◌, ◌<◌}
 use mathlib.Core.Path.{◌≡◌, refl, sym, ap, ap₂, ◌∙◌}
 use mathlib.Core.Bool.{Bool, ◌||◌}
@@ -14,8 +15,6 @@ use Rattle.forms.specs.Table.{tree}
 use Rattle.forms.proofs.Growth.{tree_more}
 use Rattle.rules.specs.Base.{Alike, base_of}
 use Rattle.rules.proofs.Sets.{turned, base_same}
-use Rattle.deductions.specs.declared.Lemma.{Lemma}
-use Rattle.deductions.specs.declared.Lemma.TheVariants.{Of, None}
 use Rattle.deductions.specs.Machine.{joined_at, joining, LowLemma}
 use Rattle.deductions.specs.Asked.{Based}
 use Rattle.deductions.specs.Meets.{Lemmas}
@@ -67,27 +66,27 @@ based_like : (fs : List Form) (s : List ℕ) (b : ℕ) (β γ : List Form) → A
 based_like fs s b β γ h B = record { low = B.low; alike = λ p. h p ∙ B.alike p }
 
 -- a lemma joins what is there
-pub based_lemma : (fs : List Form) (s : List ℕ) (b : ℕ) (β : List Form) (l : Lemma) (ds : List Derived) → b + joining l ≤ length s → Lemmas fs l ds → Based fs s b β → Based fs (joined_at s b l) (b + joining l) (joined ds β)
+pub based_lemma : (fs : List Form) (s : List ℕ) (b : ℕ) (β : List Form) (l : Option ℕ) (ds : List Derived) → b + joining l ≤ length s → Lemmas fs l ds → Based fs s b β → Based fs (joined_at s b l) (b + joining l) (joined ds β)
 unfolding Lemmas joined
-based_lemma fs s b β (Of p) ds h (d, e, i) B = rw (e, ← i.tree) (based_push fs s b p β (omega arith) i.low B)
+based_lemma fs s b β (Some p) ds h (d, e, i) B = rw (e, ← i.tree) (based_push fs s b p β (omega arith) i.low B)
 based_lemma fs s b β None ds h e B = let z : b + 0 ≡ b = omega arith in rw (e, z) B
 
 -- a lemma joins after those that follow it
-pub based_front : (fs : List Form) (s : List ℕ) (b : ℕ) (β : List Form) (l : Lemma) (ds es : List Derived) → b + joining l ≤ length s → Lemmas fs l ds → Based fs s b (joined es β)
+pub based_front : (fs : List Form) (s : List ℕ) (b : ℕ) (β : List Form) (l : Option ℕ) (ds es : List Derived) → b + joining l ≤ length s → Lemmas fs l ds → Based fs s b (joined es β)
     → Based fs (joined_at s b l) (b + joining l) (joined (ds ++ es) β)
 unfolding Lemmas joined
-based_front fs s b β (Of p) ds es h (d, e, i) B =
+based_front fs s b β (Some p) ds es h (d, e, i) B =
     rw e (based_like fs (set s b p) (b + 1) (d.conclusion ∷ joined es β) (joined es (d.conclusion ∷ β)) (joined_front es d.conclusion β)
     (rw (← i.tree) (based_push fs s b p (joined es β) (omega arith) i.low B)))
 based_front fs s b β None ds es h e B = let z : b + 0 ≡ b = omega arith in rw (e, z) B
 
 -- what a lemma leaves below, and the stack's length
-pub joined_below : (s : List ℕ) (b : ℕ) (l : Lemma) (j : ℕ) → j < b → get_or (joined_at s b l) j 0 ≡ get_or s j 0
-joined_below s b (Of p) j h = get_or-set_other s b j p 0 (λ e. omega arith)
+pub joined_below : (s : List ℕ) (b : ℕ) (l : Option ℕ) (j : ℕ) → j < b → get_or (joined_at s b l) j 0 ≡ get_or s j 0
+joined_below s b (Some p) j h = get_or-set_other s b j p 0 (λ e. omega arith)
 joined_below s b None j h = refl
 
 -- a lemma's number is small
-pub lemma_small : (fs : List Form) (l : Lemma) (ds : List Derived) → length fs ≤ 16384 → Lemmas fs l ds → LowLemma l
+pub lemma_small : (fs : List Form) (l : Option ℕ) (ds : List Derived) → length fs ≤ 16384 → Lemmas fs l ds → LowLemma l
 unfolding Lemmas
-lemma_small fs (Of p) ds h (d, e, i) = let k = i.low in omega arith
+lemma_small fs (Some p) ds h (d, e, i) = let k = i.low in omega arith
 lemma_small fs None ds h e = tt

@@ -1,4 +1,6 @@
 -- Method calls: one law for each return of the functions that run arguments and apply an operator to them.
+use Rattle.std.specs.Prelude.{Option, Some, None}
+use mathlib.Core.Logic.{◌⊎◌, inl, inr}
 use mathlib.Core.Path.{◌≡◌, refl, sym, ap, subst, ◌∙◌}
 use mathlib.Core.Bool.{true, false}
 use mathlib.Core.List.{List, [], ◌∷◌, ◌++◌, append_assoc, append-nil}
@@ -31,8 +33,6 @@ use Rattle.expressions.specs.Asked.{Text, Row}
 use Rattle.expressions.specs.Meets.{Evaluated}
 use Rattle.expressions.proofs.Operands.{cell_at, row_inside}
 use Rattle.expressions.proofs.Steps.{trees_few}
-use Rattle.deductions.specs.declared.Lemma.{Lemma}
-use Rattle.deductions.specs.declared.Lemma.TheVariants.{Of, None}
 use Rattle.deductions.specs.Machine.{M, inner, remaining, bound, moved, joining, joined_at, LowLemma, MOut, refused, got, lacking, pushed, stopped}
 use Rattle.deductions.specs.Asked.{In, Ins, Based, Setting, Room, Ready, Callable, Arglist, Applicable}
 use Rattle.deductions.specs.Meets.{Meets, Deduced, Stepped, Lemmas, Fetched, MeetsArgs, Calling, Listed, Applying}
@@ -182,9 +182,9 @@ module _ (s : Shared) (d env b n k : ℕ) (m : M) (v : Value) (a : Callable s m 
 
 -- the list of arguments
 
-lemma_more : (fs gs : List Form) (l : Lemma) (ds : List Derived) → Lemmas fs l ds → Lemmas (fs ++ gs) l ds
+lemma_more : (fs gs : List Form) (l : Option ℕ) (ds : List Derived) → Lemmas fs l ds → Lemmas (fs ++ gs) l ds
 unfolding Lemmas
-lemma_more fs gs (Of p) ds (d, e, i) = (d, e, is_more fs gs p d.conclusion i)
+lemma_more fs gs (Some p) ds (d, e, i) = (d, e, is_more fs gs p d.conclusion i)
 lemma_more fs gs None ds e = e
 
 module _ (s : Shared) (d env b onto from left : ℕ) (m : M) where
@@ -227,7 +227,7 @@ module _ (s : Shared) (d env b onto from left : ℕ) (m : M) where
           rw (list_run x e β, unfetched b x.rows m fs n y (argument x.phrases (evaluate x.phrases d) (deduce x.phrases d) e β k (remaining m)) (F.meets x fs e β S (first_in x r))) (refl, refl);
     }
 
-    module _ (m₁ : M) (v : Value) (l : Lemma) (F : Fetched s d env b k m (got v l m₁)) (a : Arglist s m env b onto from left) where
+    module _ (m₁ : M) (v : Value) (l : Option ℕ) (F : Fetched s d env b k m (got v l m₁)) (a : Arglist s m env b onto from left) where
       fetched : (x : Text) (fs : List Form) (e : Env) (β : List Form) → Setting x fs e β s m env b → Ins s.phrases from left x
           → Fetch b x.rows m m₁ fs v l (argument x.phrases (evaluate x.phrases d) (deduce x.phrases d) e β k (remaining m))
       fetched x fs e β S r = fetch b x.rows m m₁ fs v l _ (F.meets x fs e β S (first_in x r))
@@ -379,15 +379,11 @@ not_applied s d v y b n k m h g = record {
       rw (wrong (deduce x.phrases d) X β vs k (remaining m) (λ z. h (sym t ∙ z)) (λ z. g (sym t ∙ z))) (refl, refl);
 }
 
-module _ (s : Shared) (d : ℕ) (v : Value) (y b n k : ℕ) (m : M) where
-  pub prop_applied : (p : ℕ) → v ≡ Prop p → Applying s d v y b n k m (refused wrong_kind k)
-  prop_applied p e = not_applied s d v y b n k m (λ z. let t = ap tag e in omega arith) (λ z. let t = ap tag e in omega arith)
-
-  pub constructor_applied : (c : ℕ) → v ≡ Constructor c → Applying s d v y b n k m (refused wrong_kind k)
-  constructor_applied c e = not_applied s d v y b n k m (λ z. let t = ap tag e in omega arith) (λ z. let t = ap tag e in omega arith)
-
-  pub function_applied : (f : Closure) → v ≡ Function f → Applying s d v y b n k m (refused wrong_kind k)
-  function_applied f e = not_applied s d v y b n k m (λ z. let t = ap tag e in omega arith) (λ z. let t = ap tag e in omega arith)
+pub other_applied : (s : Shared) (d : ℕ) (v : Value) (y b n k : ℕ) (m : M) →
+    (((p : ℕ) × (v ≡ Prop p)) ⊎ ((c : ℕ) × (v ≡ Constructor c)) ⊎ ((f : Closure) × (v ≡ Function f))) → Applying s d v y b n k m (refused wrong_kind k)
+other_applied s d v y b n k m (inl (p, e)) = not_applied s d v y b n k m (λ z. let t = ap tag e in omega arith) (λ z. let t = ap tag e in omega arith)
+other_applied s d v y b n k m (inr (inl (c, e))) = not_applied s d v y b n k m (λ z. let t = ap tag e in omega arith) (λ z. let t = ap tag e in omega arith)
+other_applied s d v y b n k m (inr (inr (f, e))) = not_applied s d v y b n k m (λ z. let t = ap tag e in omega arith) (λ z. let t = ap tag e in omega arith)
 
 -- a method's row, and what applying it runs
 record Runs (rows : List (List ℕ)) (a : ℕ) (X : Val) : Type 0 where

@@ -1,4 +1,5 @@
 -- What a callee's answer comes to: what the language gives there, with the state that then stands for the same and more; or the same refusal.
+use Rattle.std.specs.Prelude.{Option}
 use mathlib.Core.Path.{◌≡◌, refl, sym, ap, ◌∙◌}
 use mathlib.Core.List.{List, [], ◌++◌}
 use Prim.Native.Nat.{ℕ, ◌+◌, ◌≤◌}
@@ -14,7 +15,6 @@ use Rattle.expressions.specs.declared.State.{State}
 use Rattle.expressions.specs.Machine.{Shared, mk as mkE, done, refused as refusedE}
 use Rattle.expressions.specs.Asked.{Text, Row}
 use Rattle.expressions.specs.Meets.{Meets as MeetsE, Evaluated}
-use Rattle.deductions.specs.declared.Lemma.{Lemma}
 use Rattle.deductions.specs.Machine.{M, inner, remaining, bound, moved, joining, concluded, refused, got, lacking, pushed, stopped}
 use Rattle.deductions.specs.Asked.{Based, Setting}
 use Rattle.deductions.specs.Meets.{Grew, Meets, Lemmas, MeetsOperand, MeetsArgs}
@@ -79,7 +79,7 @@ refusal a c t b m fs n y (stop n' y') z = rw (z.0, z.1)
 
 -- a phrase of either class
 
-pub record Fetch (b : ℕ) (rows : List (List ℕ)) (m m₁ : M) (fs : List Form) (v : Value) (l : Lemma) (r : Out Argument) : Type 0 where
+pub record Fetch (b : ℕ) (rows : List (List ℕ)) (m m₁ : M) (fs : List Form) (v : Value) (l : Option ℕ) (r : Out Argument) : Type 0 where
   pub more : List Form
   pub told : List ℕ
   pub argument : Argument
@@ -90,7 +90,7 @@ pub record Fetch (b : ℕ) (rows : List (List ℕ)) (m m₁ : M) (fs : List Form
   pub paid : joining l + remaining m₁ ≤ remaining m
   pub is : r ≡ out argument (remaining m₁)
 
-pub fetch : (b : ℕ) (rows : List (List ℕ)) (m m₁ : M) (fs : List Form) (v : Value) (l : Lemma) (r : Out Argument) → MeetsOperand b rows m fs (got v l m₁) r → Fetch b rows m m₁ fs v l r
+pub fetch : (b : ℕ) (rows : List (List ℕ)) (m m₁ : M) (fs : List Form) (v : Value) (l : Option ℕ) (r : Out Argument) → MeetsOperand b rows m fs (got v l m₁) r → Fetch b rows m m₁ fs v l r
 unfolding MeetsOperand
 fetch b rows m m₁ fs v l (out X w) z = record { more = z.0; told = z.1; argument = X; grew = z.2; stands = z.3; lemma = z.4; tells = z.5; paid = z.6; is = ap (out X) (sym z.7) }
 fetch b rows m m₁ fs v l (stop n y) z = absurd z

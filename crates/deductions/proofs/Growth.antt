@@ -1,4 +1,5 @@
 -- Steps one after another: what a state stands for survives growth, and the credits add up.
+use Rattle.std.specs.Prelude.{Option, Some, None}
 use mathlib.Core.Path.{◌≡◌, refl, sym, ap, subst, ◌∙◌}
 use mathlib.Core.List.{List, [], ◌++◌, append_assoc, append-nil}
 use Prim.Native.Nat.{ℕ, ◌+◌, ◌*◌, ◌≤◌, ◌<◌}
@@ -20,8 +21,6 @@ use Rattle.expressions.specs.Machine.{Shared, counters, mk as mkE}
 use Rattle.expressions.specs.Asked.{Text}
 use Rattle.expressions.specs.Meets.{Grew as GrewE}
 use Rattle.expressions.proofs.Growth.{world_grew, chain_grew, stands_grew, room_grew as room_e_grew, grew_then as grew_e_then, grew_none as grew_e_none, grew_push as grew_e_push}
-use Rattle.deductions.specs.declared.Lemma.{Lemma}
-use Rattle.deductions.specs.declared.Lemma.TheVariants.{Of, None}
 use Rattle.deductions.specs.Machine.{M, mk, progress, inner, remaining, bound, spent, moved, joined_at, MOut, concluded, refused}
 use Rattle.deductions.specs.Asked.{Setting, Room}
 use Rattle.deductions.specs.Meets.{Grew, Meets}
@@ -180,14 +179,14 @@ grew_bound b m fs v y T = record {
 }
 
 -- a lemma joins the base
-abbrev pub joined_on : M → ℕ → Lemma → M
+abbrev pub joined_on : M → ℕ → Option ℕ → M
 joined_on m b l = mk m.forms m.binds (joined_at m.base b l) m.tokens m.at
 
-joined_long : (s : List ℕ) (b : ℕ) (l : Lemma) → length (joined_at s b l) ≡ length s
-joined_long s b (Of p) = length-set s b p
+joined_long : (s : List ℕ) (b : ℕ) (l : Option ℕ) → length (joined_at s b l) ≡ length s
+joined_long s b (Some p) = length-set s b p
 joined_long s b None = refl
 
-pub grew_joined : (b k : ℕ) (m : M) (fs : List Form) (l : Lemma) → b ≤ k → Table (used m) fs → Grew 0 0 1 b m (joined_on m k l) fs [] []
+pub grew_joined : (b k : ℕ) (m : M) (fs : List Form) (l : Option ℕ) → b ≤ k → Table (used m) fs → Grew 0 0 1 b m (joined_on m k l) fs [] []
 grew_joined b k m fs l h T = record {
   inner = grew_e_none 0 0 (inner m) fs T;
   base = λ j q. joined_below m.base k l j (omega arith);

@@ -1,4 +1,5 @@
 -- Phrases of either class, dlet and the steps of a block: one law for each return.
+use Rattle.std.specs.Prelude.{Option, Some, None}
 use mathlib.Core.Path.{◌≡◌, refl, sym, ap, ◌∙◌}
 use mathlib.Core.List.{List, [], ◌∷◌, ◌++◌, append-nil}
 use Prim.Native.Nat.{ℕ, ◌+◌, ◌*◌, ◌-◌, ◌≤◌, ◌<◌}
@@ -21,8 +22,6 @@ use Rattle.expressions.specs.Asked.{Text, World}
 use Rattle.expressions.specs.Meets.{Evaluated}
 use Rattle.expressions.proofs.Steps.{rows_few, trees_few}
 use Rattle.expressions.proofs.Operands.{row_inside}
-use Rattle.deductions.specs.declared.Lemma.{Lemma}
-use Rattle.deductions.specs.declared.Lemma.TheVariants.{Of, None}
 use Rattle.deductions.specs.Machine.{M, inner, remaining, bound, moved, joining, LowLemma, MOut, concluded, refused, got, lacking}
 use Rattle.deductions.specs.Asked.{In, Ins, Setting, Ready, Steplist}
 use Rattle.deductions.specs.Meets.{Grew, Meets, Deduced, Stepped, Lemmas, MeetsOperand, Fetched, Stepping}
@@ -83,7 +82,7 @@ module _ (s : Shared) (d env b k : ℕ) (m : M) where
   grew_one : (fs : List Form) → m.at.tokens + 1 ≤ length m.tokens → Table (used m) fs → Grew 0 0 2 b m told_one fs [] (1 ∷ [])
   grew_one fs h T = grew_told 2 b (m.at.tokens + 1) m fs (1 ∷ []) refl h (omega arith) T
 
-  pub either_lemma : (c p : ℕ) (m₂ : M) → m.at.tokens + 1 ≤ length m.tokens → c ≡ kind s.phrases k → 16 ≤ c → Deduced s d env b k told_one (concluded p m₂) → Fetched s d env b k m (got (Prop p) (Of p) m₂)
+  pub either_lemma : (c p : ℕ) (m₂ : M) → m.at.tokens + 1 ≤ length m.tokens → c ≡ kind s.phrases k → 16 ≤ c → Deduced s d env b k told_one (concluded p m₂) → Fetched s d env b k m (got (Prop p) (Some p) m₂)
   unfolding MeetsOperand Lemmas TellsLemmas Stands next
   either_lemma c p m₂ room i h A = record {
     meets = λ x fs e β S l.
@@ -134,7 +133,7 @@ module _ (s : Shared) (d env b k : ℕ) (m : M) where
 
 -- what a phrase of either class leaves
 
-pub record Held (G : Text → Type 0) (s : Shared) (m m₁ : M) (env b A C T U : ℕ) (v : Value) (l : Lemma) : Type 0 where
+pub record Held (G : Text → Type 0) (s : Shared) (m m₁ : M) (env b A C T U : ℕ) (v : Value) (l : Option ℕ) : Type 0 where
   pub ready : Ready G s m₁ env b A C T U
   pub value : Val
   pub stands : Stands ready.text.rows ready.formed m₁.binds (bound m₁) value v
@@ -144,7 +143,7 @@ pub record Held (G : Text → Type 0) (s : Shared) (m m₁ : M) (env b A C T U :
   pub paid : joining l + remaining m₁ ≤ remaining m
   pub long : length m₁.base ≡ length m.base
 
-pub held : (G : Text → Type 0) (s : Shared) (d env b k A C T U : ℕ) (m m₁ : M) (v : Value) (l : Lemma) (r : Ready G s m env b A C T U) → In k r.text → Fetched s d env b k m (got v l m₁) → Held G s m m₁ env b A C T U v l
+pub held : (G : Text → Type 0) (s : Shared) (d env b k A C T U : ℕ) (m m₁ : M) (v : Value) (l : Option ℕ) (r : Ready G s m env b A C T U) → In k r.text → Fetched s d env b k m (got v l m₁) → Held G s m m₁ env b A C T U v l
 held G s d env b k A C T U m m₁ v l r row F =
     let x = r.text in let fs = r.formed in let e = r.bindings in let β = r.basis in
     let P = fetch b x.rows m m₁ fs v l (argument x.phrases (evaluate x.phrases d) (deduce x.phrases d) e β k (remaining m)) (F.meets x fs e β r.setting row) in
@@ -169,7 +168,7 @@ held G s d env b k A C T U m m₁ v l r row F =
       long = g.base_long;
     }
 
-pub join_fits : (G : Text → Type 0) (s : Shared) (m m₁ : M) (env b A C T U : ℕ) (v : Value) (l : Lemma) → b + remaining m ≤ length m.base → Held G s m m₁ env b A C T U v l → (b + joining l ≤ 16384) × LowLemma l
+pub join_fits : (G : Text → Type 0) (s : Shared) (m m₁ : M) (env b A C T U : ℕ) (v : Value) (l : Option ℕ) → b + remaining m ≤ length m.base → Held G s m m₁ env b A C T U v l → (b + joining l ≤ 16384) × LowLemma l
 join_fits G s m m₁ env b A C T U v l h H =
     let r = H.ready in
     let rs = r.room.small in let p = H.paid in let q = H.long in
@@ -209,10 +208,10 @@ module _ (s : Shared) (d env b k : ℕ) (m : M) (is : kind s.phrases k ≡ 19) (
   }
 
   -- the lemma joined and the value bound
-  abbrev let_state : M → Value → Lemma → M
+  abbrev let_state : M → Value → Option ℕ → M
   let_state m₁ v l = bound_on (joined_on m₁ b l) v env
 
-  pub let_setting : (x : Text) (fs : List Form) (e : Env) (β : List Form) (m₁ : M) (v : Value) (l : Lemma) (X : Val) (ds : List Derived) → Setting x fs e β s m₁ env b → Stands x.rows fs m₁.binds (bound m₁) X v → Lemmas fs l ds
+  pub let_setting : (x : Text) (fs : List Form) (e : Env) (β : List Form) (m₁ : M) (v : Value) (l : Option ℕ) (X : Val) (ds : List Derived) → Setting x fs e β s m₁ env b → Stands x.rows fs m₁.binds (bound m₁) X v → Lemmas fs l ds
       → b + joining l ≤ length m₁.base → 4 * bound m₁ + 4 ≤ length m₁.binds → Setting x fs (e ▸ X) (joined ds β) s (let_state m₁ v l) (bound m₁ + 1) (b + joining l)
   let_setting x fs e β m₁ v l X ds S st L room space =
       let w = S.world in
@@ -222,12 +221,12 @@ module _ (s : Shared) (d env b k : ℕ) (m : M) (is : kind s.phrases k ≡ 19) (
         based = based_lemma fs m₁.base b β l ds room L S.based;
       }
 
-  let_grew : (m₁ : M) (v : Value) (l : Lemma) (fs : List Form) → Table (used m₁) fs → Grew 0 1 1 b m₁ (let_state m₁ v l) fs [] []
+  let_grew : (m₁ : M) (v : Value) (l : Option ℕ) (fs : List Form) → Table (used m₁) fs → Grew 0 1 1 b m₁ (let_state m₁ v l) fs [] []
   let_grew m₁ v l fs T =
       grew_on 0 0 1 b 0 1 1 b 0 1 1 m₁ (joined_on m₁ b l) (let_state m₁ v l) fs [] [] [] (grew_joined b b m₁ fs l (le_refl b) T) (grew_bound b (joined_on m₁ b l) fs v env T)
       (omega arith) (omega arith) (omega arith) (le_refl b)
 
-  pub let_is : (m₁ : M) (v : Value) (l : Lemma) (o : MOut) → Ready (In k) s m env b 4 4 11 1 → Fetched s d env b f m (got v l m₁) → Deduced s d (bound m₁ + 1) (b + joining l) j (let_state m₁ v l) o → Stepped s d env b k m o
+  pub let_is : (m₁ : M) (v : Value) (l : Option ℕ) (o : MOut) → Ready (In k) s m env b 4 4 11 1 → Fetched s d env b f m (got v l m₁) → Deduced s d (bound m₁ + 1) (b + joining l) j (let_state m₁ v l) o → Stepped s d env b k m o
   unfolding next
   let_is m₁ v l o r F D = record {
     meets = λ x fs e β S i.
@@ -245,7 +244,7 @@ module _ (s : Shared) (d env b k : ℕ) (m : M) (is : kind s.phrases k ≡ 19) (
         (D.meets x (fs ++ P.more) (e ▸ P.argument.value) (joined P.argument.lemma β) S₂ (second_in x fs e β S i)) (omega arith) (omega arith) (omega arith) (omega arith));
   }
 
-  pub let_ready : (m₁ : M) (v : Value) (l : Lemma) (r : Ready (In k) s m env b 4 4 11 1) → Held (In k) s m m₁ env b 4 4 11 1 v l → Ready (In j) s (let_state m₁ v l) (bound m₁ + 1) (b + joining l) 0 0 0 0 × (16 ≤ kind s.phrases j)
+  pub let_ready : (m₁ : M) (v : Value) (l : Option ℕ) (r : Ready (In k) s m env b 4 4 11 1) → Held (In k) s m m₁ env b 4 4 11 1 v l → Ready (In j) s (let_state m₁ v l) (bound m₁ + 1) (b + joining l) 0 0 0 0 × (16 ≤ kind s.phrases j)
   let_ready m₁ v l r H =
       let q = H.ready in
       let rows = let_rows q.text q.formed s (inner m₁) q.setting.world k q.row is in
@@ -266,7 +265,7 @@ module _ (s : Shared) (d env b k : ℕ) (m : M) (is : kind s.phrases k ≡ 19) (
         rw ji rows.1.1,
       )
 
-pub let_value_fits : (s : Shared) (m m₁ : M) (env b k : ℕ) (v : Value) (l : Lemma) → Held (In k) s m m₁ env b 4 4 11 1 v l → (4 * bound m₁ + 4 ≤ length m₁.binds) × (length m₁.binds ≤ 16384) × Small (record { value = v; next = env })
+pub let_value_fits : (s : Shared) (m m₁ : M) (env b k : ℕ) (v : Value) (l : Option ℕ) → Held (In k) s m m₁ env b 4 4 11 1 v l → (4 * bound m₁ + 4 ≤ length m₁.binds) × (length m₁.binds ≤ 16384) × Small (record { value = v; next = env })
 let_value_fits s m m₁ env b k v l H =
     let r = H.ready in
     let rb = r.room.inner.binds in
@@ -351,7 +350,7 @@ module _ (s : Shared) (env b from left k : ℕ) (m : M) (ki : k ≡ get_or s.phr
           rw (more_steps x fs e β a S r h, unfetched b x.rows m fs n y (argument x.phrases (evaluate x.phrases d) (deduce x.phrases d) e β k (remaining m)) (F.meets x fs e β S (first_step x a.some r))) (refl, refl);
     }
 
-    joined_setting : (x : Text) (fs : List Form) (e : Env) (β : List Form) (m₁ : M) (l : Lemma) (ds : List Derived) → Setting x fs e β s m₁ env b → Lemmas fs l ds → b + joining l ≤ length m₁.base
+    joined_setting : (x : Text) (fs : List Form) (e : Env) (β : List Form) (m₁ : M) (l : Option ℕ) (ds : List Derived) → Setting x fs e β s m₁ env b → Lemmas fs l ds → b + joining l ≤ length m₁.base
         → Setting x fs e (joined ds β) s (joined_on m₁ b l) env (b + joining l)
     joined_setting x fs e β m₁ l ds S L room =
         let w = S.world in
@@ -361,7 +360,7 @@ module _ (s : Shared) (env b from left k : ℕ) (m : M) (ki : k ≡ get_or s.phr
           based = based_lemma fs m₁.base b β l ds room L S.based;
         }
 
-    pub step_then : (m₁ : M) (v : Value) (l : Lemma) (o : MOut) → Steplist s m env b from left → (left ≡ 1 → ⊥) → Fetched s d env b k m (got v l m₁) → Stepping s d env (b + joining l) (from + 1) (left - 1) (joined_on m₁ b l) o
+    pub step_then : (m₁ : M) (v : Value) (l : Option ℕ) (o : MOut) → Steplist s m env b from left → (left ≡ 1 → ⊥) → Fetched s d env b k m (got v l m₁) → Stepping s d env (b + joining l) (from + 1) (left - 1) (joined_on m₁ b l) o
         → Stepping s d env b from left m o
     unfolding next
     step_then m₁ v l o a h F D = record {
@@ -378,7 +377,7 @@ module _ (s : Shared) (env b from left k : ℕ) (m : M) (ki : k ≡ get_or s.phr
           (D.meets x (fs ++ P.more) e (joined P.argument.lemma β) S₂ (later_steps x h r)) (omega arith) (omega arith) (omega arith) (omega arith));
     }
 
-    pub steps_ready : (m₁ : M) (v : Value) (l : Lemma) (a : Steplist s m env b from left) → (left ≡ 1 → ⊥) → Fetched s d env b k m (got v l m₁) → Steplist s (joined_on m₁ b l) env (b + joining l) (from + 1) (left - 1)
+    pub steps_ready : (m₁ : M) (v : Value) (l : Option ℕ) (a : Steplist s m env b from left) → (left ≡ 1 → ⊥) → Fetched s d env b k m (got v l m₁) → Steplist s (joined_on m₁ b l) env (b + joining l) (from + 1) (left - 1)
     steps_ready m₁ v l a h F =
         let H = held (Ins s.phrases from left) s d env b k 0 0 1 0 m m₁ v l a.ready (first_step a.ready.text a.some a.ready.row) F in
         let q = H.ready in

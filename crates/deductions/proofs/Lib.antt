@@ -1,7 +1,6 @@
--- values, runs of tokens, and the functions that run no phrase
+-- values and runs of tokens
 pub mod Sorts
 pub mod Tokens
-pub mod Leaves
 -- states that grow
 pub mod Bases
 pub mod Growth

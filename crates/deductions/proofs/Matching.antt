@@ -1,4 +1,5 @@
 -- Dmatch: one law for each return of the functions that run the first phrase and the clause that fits.
+use Rattle.std.specs.Prelude.{Option, Some, None}
 use mathlib.Core.Path.{◌≡◌, refl, sym, ap, subst, ◌∙◌}
 use mathlib.Core.List.{List, [], ◌++◌, map, append-nil}
 use Prim.Native.Nat.{ℕ, ◌+◌, ◌*◌, ◌≤◌, ◌<◌}
@@ -19,7 +20,6 @@ use Rattle.bindings.specs.declared.Value.TheVariants.{Prop}
 use Rattle.bindings.specs.Stands.{Chain}
 use Rattle.bindings.proofs.Chains.{chain_low}
 use Rattle.patterns.specs.declared.Parts.{Parts}
-use Rattle.patterns.specs.declared.Choice.TheVariants.{Chosen, Unfit}
 use Rattle.patterns.specs.Parts.{numbers}
 use Rattle.patterns.specs.Fitting.{Offered, Picked, ChosenSo}
 use Rattle.patterns.proofs.Clauses.{OnBody, body_of, Binds, binds_of}
@@ -28,7 +28,6 @@ use Rattle.expressions.specs.Asked.{Text, World, Bindable}
 use Rattle.expressions.proofs.Operands.{row_inside}
 use Rattle.expressions.proofs.Steps.{trees_few}
 use Rattle.expressions.proofs.Parts.{chained_kept, chained_long, chained_stands}
-use Rattle.deductions.specs.declared.Lemma.{Lemma}
 use Rattle.deductions.specs.Machine.{M, mk, progress, inner, remaining, bound, MOut, refused, got, lacking}
 use Rattle.deductions.specs.Asked.{In, Setting, Ready, Matching}
 use Rattle.deductions.specs.Meets.{Grew, Meets, Deduced, Stepped, Fetched, Selected}
@@ -69,15 +68,15 @@ module _ (s : Shared) (env b k p : ℕ) (m : M) (n : ℕ) (i : n ≡ two s.phras
   body_at x fs P W l = body_of (Body x s) x.patterns P n (12 * k + 3) s.phrases (λ j h. (clause_rows x fs s (inner m) W k l is j (omega arith)).1)
 
   -- no clause fits
-  pub none_fits : (d : ℕ) → ChosenSo m.forms s.patterns s.phrases (12 * k + 3) n p Unfit → Selected s d env b k p m (refused no_clause k)
+  pub none_fits : (d : ℕ) → ChosenSo m.forms s.patterns s.phrases (12 * k + 3) n p None → Selected s d env b k p m (refused no_clause k)
   unfolding Meets on_choice Picked
   none_fits d C = record { meets = λ x fs e β S l low. rw (← i) (go x fs e β (clauses x (tree fs p)) (C.meets (offered x fs S.world l low))) }
     where
-      go : (x : Text) (fs : List Form) (e : Env) (β : List Form) (q : ChosenClause) → Picked fs Unfit q → Meets 0 4 0 b m fs (refused no_clause k) (on_choice q k (λ j ps. deduce x.phrases d (with_forms e ps) β j (remaining m)))
+      go : (x : Text) (fs : List Form) (e : Env) (β : List Form) (q : ChosenClause) → Picked fs None q → Meets 0 4 0 b m fs (refused no_clause k) (on_choice q k (λ j ps. deduce x.phrases d (with_forms e ps) β j (remaining m)))
       go x fs e β (chosen j ps) z = absurd z
       go x fs e β unfit z = (refl, refl)
 
-  module _ (body : ℕ) (parts : Parts) (C : ChosenSo m.forms s.patterns s.phrases (12 * k + 3) n p (Chosen body parts)) where
+  module _ (body : ℕ) (parts : Parts) (C : ChosenSo m.forms s.patterns s.phrases (12 * k + 3) n p (Some (body, parts))) where
     pub parts_bindable : Matching s m env b k p → Bindable m.binds (bound m) env parts
     unfolding Picked
     parts_bindable a = go (clauses r.text (tree r.formed p)) (C.meets (offered r.text r.formed r.setting.world r.row a.low))
@@ -85,7 +84,7 @@ module _ (s : Shared) (env b k p : ℕ) (m : M) (n : ℕ) (i : n ≡ two s.phras
         r : Ready (In k) s m env b 0 4 0 0
         r = a.ready
 
-        go : (q : ChosenClause) → Picked r.formed (Chosen body parts) q → Bindable m.binds (bound m) env parts
+        go : (q : ChosenClause) → Picked r.formed (Some (body, parts)) q → Bindable m.binds (bound m) env parts
         go (chosen j ps) z =
             let B = binds_of r.formed ps parts z.1.0 z.1.1 z.1.2 z.1.3 in
             let few = B.few in
@@ -154,7 +153,7 @@ module _ (s : Shared) (env b k p : ℕ) (m : M) (n : ℕ) (i : n ≡ two s.phras
           r : Ready (In k) s m env b 0 4 0 0
           r = a.ready
 
-          go : (q : ChosenClause) → Picked r.formed (Chosen body parts) q → OnBody (Body r.text s) q → Ready (In body) s parts_on y b 0 0 0 0 × (16 ≤ kind s.phrases body)
+          go : (q : ChosenClause) → Picked r.formed (Some (body, parts)) q → OnBody (Body r.text s) q → Ready (In body) s parts_on y b 0 0 0 0 × (16 ≤ kind s.phrases body)
           go (chosen j ps) z h =
               let D = binds_of r.formed ps parts z.1.0 z.1.1 z.1.2 z.1.3 in
               let rm = (parts_bindable a).room in (
@@ -177,7 +176,7 @@ module _ (s : Shared) (env b k p : ℕ) (m : M) (n : ℕ) (i : n ≡ two s.phras
         meets = λ x fs e β S l low. rw (← i) (go x fs e β S (clauses x (tree fs p)) (C.meets (offered x fs S.world l low)) (body_at x fs (tree fs p) S.world l));
       }
         where
-          go : (x : Text) (fs : List Form) (e : Env) (β : List Form) → Setting x fs e β s m env b → (q : ChosenClause) → Picked fs (Chosen body parts) q → OnBody (Body x s) q
+          go : (x : Text) (fs : List Form) (e : Env) (β : List Form) → Setting x fs e β s m env b → (q : ChosenClause) → Picked fs (Some (body, parts)) q → OnBody (Body x s) q
               → Meets 0 4 0 b m fs o (on_choice q k (λ j ps. deduce x.phrases d (with_forms e ps) β j (remaining m)))
           go x fs e β S (chosen j ps) z h =
               let D = binds_of fs ps parts z.1.0 z.1.1 z.1.2 z.1.3 in
@@ -232,7 +231,7 @@ module _ (s : Shared) (d env b k f : ℕ) (m : M) (is : kind s.phrases k ≡ 22)
         rw (match_step x fs e β S l, unfetched b x.rows m fs n y (argument x.phrases (evaluate x.phrases d) (deduce x.phrases d) e β f (remaining m)) (F.meets x fs e β S (first_in x fs e β S l))) (refl, refl);
   }
 
-  module _ (m₁ : M) (v : Value) (l : Lemma) (F : Fetched s d env b f m (got v l m₁)) where
+  module _ (m₁ : M) (v : Value) (l : Option ℕ) (F : Fetched s d env b f m (got v l m₁)) where
     fetched : (x : Text) (fs : List Form) (e : Env) (β : List Form) → Setting x fs e β s m env b → In k x → Fetch b x.rows m m₁ fs v l (argument x.phrases (evaluate x.phrases d) (deduce x.phrases d) e β f (remaining m))
     fetched x fs e β S i = fetch b x.rows m m₁ fs v l _ (F.meets x fs e β S (first_in x fs e β S i))
 

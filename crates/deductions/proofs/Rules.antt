@@ -1,4 +1,5 @@
 -- A rule applied: its arguments read off their chain are the values, and what it answers is what the language infers.
+use Rattle.std.specs.Prelude.{Option, Some, None, Result, Ok}
 use mathlib.Core.Path.{◌≡◌, refl, sym, ap, subst, ◌∙◌}
 use mathlib.Core.Bool.{Bool, true, false}
 use mathlib.Core.List.{List, [], ◌∷◌, ◌++◌}
@@ -8,6 +9,8 @@ use lib.ListN.{length, get_or, take, drop, take-append-drop}
 use lib.Seq.{sets, length-sets, length-take-le}
 use borrow.Author.Tests.{eq-eqb, ne_eqb}
 use Rattle.language.specs.Refusals.{wrong_kind, wrong_count, premise_missing}
+use Rattle.language.specs.declared.refusal.Refusal.{Refusal}
+use Rattle.language.specs.declared.refusal.Why.{Why}
 use Rattle.language.specs.Form.{Form, verum, members}
 use Rattle.language.specs.Rules.{arity, Ruled, gives, misshapen, ruled}
 use Rattle.language.specs.Plain.{infer}
@@ -15,6 +18,7 @@ use Rattle.language.specs.Syntax.{function, method}
 use Rattle.language.specs.Values.{Val, form, con_v, rule_v, closure, Env, empty, ◌▸◌, Out, out, stop, must, as_form, as_forms, with_all, scope}
 use Rattle.language.specs.Run.{Derived, derived, Deduce, inferred, applied, deduce}
 use Rattle.words.proofs.Fronts.{take_front, length_front}
+use Rattle.forms.specs.declared.Formed.{Formed}
 use Rattle.forms.specs.Table.{tree, Table}
 use Rattle.forms.proofs.Trees.{truth_at}
 use Rattle.bindings.specs.declared.Value.{Value}
@@ -24,15 +28,11 @@ use Rattle.bindings.specs.Stands.{Is, Stands, Chain}
 use Rattle.bindings.proofs.Tags.{tag, held}
 use Rattle.tokens.specs.Tells.{Names, Tells}
 use Rattle.tokens.proofs.Growth.{names_more}
-use Rattle.rules.specs.declared.Applied.{Applied}
-use Rattle.rules.specs.declared.Applied.TheVariants.{Given}
 use Rattle.rules.specs.Base.{base_of}
 use Rattle.rules.specs.Applied.{Ready as RuleReady, whether, outcome, Comes}
 use Rattle.expressions.specs.Machine.{Shared}
 use Rattle.expressions.specs.Asked.{Text}
-use Rattle.deductions.specs.declared.Conclusion.{Conclusion}
-use Rattle.deductions.specs.declared.Taken.{Taken}
-use Rattle.deductions.specs.declared.Taken.TheVariants.{Props, Other}
+use Rattle.deductions.specs.declared.Progress.{Progress}
 use Rattle.deductions.specs.Machine.{M, remaining, bound, refused, out_of, taken_by, taken_at, Long, inferred_of, Inferred}
 use Rattle.rules.specs.Base.{Alike}
 use Rattle.deductions.specs.Asked.{Setting, Applicable}
@@ -77,7 +77,7 @@ args_long s m v y b n a =
 
 data Reads (fs : List Form) : Val → Value → Type 0 where
   prop_read : (p : ℕ) (P : Form) → Is fs p P → Reads fs (form P) (Prop p)
-  other_read : {X : Val} {v : Value} → ((f : ℕ → Taken) → taken_by v f ≡ Other) → ((k : ℕ) (f : Form → Out Derived) → as_form X k f ≡ stop wrong_kind k) → Reads fs X v
+  other_read : {X : Val} {v : Value} → ((f : ℕ → Option (ℕ × ℕ × ℕ)) → taken_by v f ≡ None) → ((k : ℕ) (f : Form → Out Derived) → as_form X k f ≡ stop wrong_kind k) → Reads fs X v
 
 reads : (rows : List (List ℕ)) (fs : List Form) (t : List ℕ) (n : ℕ) (X : Val) (v : Value) → Stands rows fs t n X v → Reads fs X v
 unfolding Stands taken_by as_form
@@ -90,48 +90,48 @@ reads rows fs t n (closure function true m b e) v x = other_read {v = v} (λ f. 
 reads rows fs t n (closure method true m b e) v x = other_read {v = v} (λ f. rw x.2) (λ k f. refl)
 
 -- the numbers read off are the arguments' propositions, true where there is none; or one is no proposition
-Takes : List Form → List Val → Taken → Type 0
-Takes fs vs (Props x y z) =
+Takes : List Form → List Val → Option (ℕ × ℕ × ℕ) → Type 0
+Takes fs vs (Some (x, y, z)) =
     (ps : List Form) × ((k : ℕ) (f : List Form → Out Derived) → as_forms vs k f ≡ f ps) × Names fs (take (length vs) (x ∷ (y ∷ (z ∷ [])))) ps
     × ((x < length fs) × (y < length fs) × (z < length fs)) × ((r : ℕ) → ruled r (tree fs x ∷ (tree fs y ∷ (tree fs z ∷ []))) ≡ ruled r ps)
-Takes fs vs Other = (k : ℕ) (f : List Form → Out Derived) → as_forms vs k f ≡ stop wrong_kind k
+Takes fs vs None = (k : ℕ) (f : List Form → Out Derived) → as_forms vs k f ≡ stop wrong_kind k
 
 module _ (fs : List Form) (truth : tree fs 0 ≡ verum) (some : 0 < length fs) where
-  takes_none : Takes fs [] (Props 0 0 0)
+  takes_none : Takes fs [] (Some (0, 0, 0))
   unfolding Takes as_forms Names
   takes_none = ([], λ k f. refl, tt, (some, some, some), λ r. ruled_at r (tree fs 0) (tree fs 0) (tree fs 0) [] truth truth truth)
 
-  takes_one : {A : Val} {a : Value} → Reads fs A a → Takes fs (A ∷ []) (taken_by a (λ p. Props p 0 0))
+  takes_one : {A : Val} {a : Value} → Reads fs A a → Takes fs (A ∷ []) (taken_by a (λ p. Some (p, 0, 0)))
   unfolding Takes as_forms as_form taken_by Names
   takes_one (prop_read p P i) = (P ∷ [], λ k f. refl, (i, tt), (i.low, some, some), λ r. ruled_at r (tree fs p) (tree fs 0) (tree fs 0) (P ∷ []) i.tree truth truth)
-  takes_one {A} (other_read t g) = subst (Takes fs (A ∷ [])) (sym (t (λ p. Props p 0 0))) (λ k f. g k _)
+  takes_one {A} (other_read t g) = subst (Takes fs (A ∷ [])) (sym (t (λ p. Some (p, 0, 0)))) (λ k f. g k _)
 
-  takes_two : {A B : Val} {a b : Value} → Reads fs A a → Reads fs B b → Takes fs (A ∷ (B ∷ [])) (taken_by b (λ q. taken_by a (λ p. Props p q 0)))
+  takes_two : {A B : Val} {a b : Value} → Reads fs A a → Reads fs B b → Takes fs (A ∷ (B ∷ [])) (taken_by b (λ q. taken_by a (λ p. Some (p, q, 0))))
   unfolding Takes as_forms as_form taken_by Names
   takes_two (prop_read p P i) (prop_read q Q j) =
       (P ∷ (Q ∷ []), λ k f. refl, (i, (j, tt)), (i.low, j.low, some), λ r. ruled_at r (tree fs p) (tree fs q) (tree fs 0) (P ∷ (Q ∷ [])) i.tree j.tree truth)
-  takes_two {A} {B} (prop_read p P i) (other_read t g) = subst (Takes fs (form P ∷ (B ∷ []))) (sym (t (λ q. Props p q 0))) (λ k f. g k _)
-  takes_two {A} {B} (other_read t g) (prop_read q Q j) = subst (Takes fs (A ∷ (form Q ∷ []))) (sym (t (λ p. Props p q 0))) (λ k f. g k _)
-  takes_two {A} {B} {a} (other_read t g) (other_read u h) = subst (Takes fs (A ∷ (B ∷ []))) (sym (u (λ q. taken_by a (λ p. Props p q 0)))) (λ k f. g k _)
+  takes_two {A} {B} (prop_read p P i) (other_read t g) = subst (Takes fs (form P ∷ (B ∷ []))) (sym (t (λ q. Some (p, q, 0)))) (λ k f. g k _)
+  takes_two {A} {B} (other_read t g) (prop_read q Q j) = subst (Takes fs (A ∷ (form Q ∷ []))) (sym (t (λ p. Some (p, q, 0)))) (λ k f. g k _)
+  takes_two {A} {B} {a} (other_read t g) (other_read u h) = subst (Takes fs (A ∷ (B ∷ []))) (sym (u (λ q. taken_by a (λ p. Some (p, q, 0))))) (λ k f. g k _)
 
-  takes_three : {A B C : Val} {a b c : Value} → Reads fs A a → Reads fs B b → Reads fs C c → Takes fs (A ∷ (B ∷ (C ∷ []))) (taken_by c (λ r. taken_by b (λ q. taken_by a (λ p. Props p q r))))
+  takes_three : {A B C : Val} {a b c : Value} → Reads fs A a → Reads fs B b → Reads fs C c → Takes fs (A ∷ (B ∷ (C ∷ []))) (taken_by c (λ r. taken_by b (λ q. taken_by a (λ p. Some (p, q, r)))))
   unfolding Takes as_forms as_form taken_by Names
   takes_three (prop_read p P i) (prop_read q Q j) (prop_read r R l) =
       (P ∷ (Q ∷ (R ∷ [])), λ k f. refl, (i, (j, (l, tt))), (i.low, j.low, l.low), λ n. ruled_at n (tree fs p) (tree fs q) (tree fs r) (P ∷ (Q ∷ (R ∷ []))) i.tree j.tree l.tree)
   takes_three {C = C} (prop_read p P i) (prop_read q Q j) (other_read t g) =
-      subst (Takes fs (form P ∷ (form Q ∷ (C ∷ [])))) (sym (t (λ r. Props p q r))) (λ k f. g k _)
+      subst (Takes fs (form P ∷ (form Q ∷ (C ∷ [])))) (sym (t (λ r. Some (p, q, r)))) (λ k f. g k _)
   takes_three {B = B} (prop_read p P i) (other_read t g) (prop_read r R l) =
-      subst (Takes fs (form P ∷ (B ∷ (form R ∷ [])))) (sym (t (λ q. Props p q r))) (λ k f. g k _)
+      subst (Takes fs (form P ∷ (B ∷ (form R ∷ [])))) (sym (t (λ q. Some (p, q, r)))) (λ k f. g k _)
   takes_three {B = B} {C = C} {b = b} (prop_read p P i) (other_read t g) (other_read u h) =
-      subst (Takes fs (form P ∷ (B ∷ (C ∷ [])))) (sym (u (λ r. taken_by b (λ q. Props p q r)))) (λ k f. g k _)
+      subst (Takes fs (form P ∷ (B ∷ (C ∷ [])))) (sym (u (λ r. taken_by b (λ q. Some (p, q, r))))) (λ k f. g k _)
   takes_three {A = A} (other_read t g) (prop_read q Q j) (prop_read r R l) =
-      subst (Takes fs (A ∷ (form Q ∷ (form R ∷ [])))) (sym (t (λ p. Props p q r))) (λ k f. g k _)
+      subst (Takes fs (A ∷ (form Q ∷ (form R ∷ [])))) (sym (t (λ p. Some (p, q, r)))) (λ k f. g k _)
   takes_three {A = A} {C = C} {a = a} (other_read t g) (prop_read q Q j) (other_read u h) =
-      subst (Takes fs (A ∷ (form Q ∷ (C ∷ [])))) (sym (u (λ r. taken_by a (λ p. Props p q r)))) (λ k f. g k _)
+      subst (Takes fs (A ∷ (form Q ∷ (C ∷ [])))) (sym (u (λ r. taken_by a (λ p. Some (p, q, r))))) (λ k f. g k _)
   takes_three {A = A} {B = B} {a = a} (other_read t g) (other_read u h) (prop_read r R l) =
-      subst (Takes fs (A ∷ (B ∷ (form R ∷ [])))) (sym (u (λ q. taken_by a (λ p. Props p q r)))) (λ k f. g k _)
+      subst (Takes fs (A ∷ (B ∷ (form R ∷ [])))) (sym (u (λ q. taken_by a (λ p. Some (p, q, r))))) (λ k f. g k _)
   takes_three {A = A} {B = B} {C = C} {a = a} {b = b} (other_read t g) (other_read u h) (other_read w l) =
-      subst (Takes fs (A ∷ (B ∷ (C ∷ [])))) (sym (w (λ r. taken_by b (λ q. taken_by a (λ p. Props p q r))))) (λ k f. g k _)
+      subst (Takes fs (A ∷ (B ∷ (C ∷ [])))) (sym (w (λ r. taken_by b (λ q. taken_by a (λ p. Some (p, q, r)))))) (λ k f. g k _)
 
   takes : (rows : List (List ℕ)) (t : List ℕ) (n : ℕ) (vs : List Val) (y : ℕ) → length vs ≤ 3 → Chain rows fs t n (with_all empty vs) y → Takes fs vs (taken_at t y (length vs) 0 0 0)
   unfolding Stands with_all taken_at
@@ -178,13 +178,13 @@ module _ (s : Shared) (m : M) (y b n r : ℕ) where
       let C : Chain x.rows fs m.binds (bound m) (with_all empty vs) y = rw (rule_is x.rows fs m.binds (bound m) X r st).0 at S.chain in
       rw (← l) (takes fs (truth_at (used m) fs T) (omega arith) x.rows m.binds (bound m) vs y (omega arith) C)
 
-  pub conclude_asks : Applicable s m (Rule r) y b n → n ≡ get_or arity r 0 → (p q z : ℕ) → Props p q z ≡ taken_at m.binds y n 0 0 0
+  pub conclude_asks : Applicable s m (Rule r) y b n → n ≡ get_or arity r 0 → (p q z : ℕ) → Some (p, q, z) ≡ taken_at m.binds y n 0 0 0
       → RuleReady m.forms m.at.state.props m.base b p q z × (m.at.tokens + 5 ≤ length m.tokens) × (length m.tokens ≤ 16384) × (n ≤ 3) × (r ≤ 15)
   unfolding Takes
   conclude_asks a e p q z i =
       let g = a.ready in
       let S = subst (λ (v : Env). Setting g.text g.formed v g.basis s m y b) a.spread g.setting in
-      let k : Takes g.formed a.values (Props p q z) = subst (Takes g.formed a.values) (sym i) (taken_so g.text g.formed a.operator a.values g.basis S a.stands a.count e) in
+      let k : Takes g.formed a.values (Some (p, q, z)) = subst (Takes g.formed a.values) (sym i) (taken_so g.text g.formed a.operator a.values g.basis S a.stands a.count e) in
       let T = g.setting.world.legible.table in
       let rf = g.room.inner.forms in let rs = g.room.inner.small in let rt = g.room.tokens in
       let props = m.at.state.props in
@@ -215,11 +215,11 @@ module _ (s : Shared) (m : M) (y b n r : ℕ) where
     unfolding applied must
     applied_is D β vs w l e = rw (eq-eqb (length vs) (get_or arity r 0) (l ∙ e))
 
-    pub rule_other : (c : ℕ) → c ≡ get_or arity r 0 → n ≡ c → Other ≡ taken_at m.binds y n 0 0 0 → Applying s d (Rule r) y b n k m (refused wrong_kind k)
+    pub rule_other : (c : ℕ) → c ≡ get_or arity r 0 → n ≡ c → None ≡ taken_at m.binds y n 0 0 0 → Applying s d (Rule r) y b n k m (refused wrong_kind k)
     unfolding Meets Takes
     rule_other c e h i = record {
       meets = λ x fs X vs β S st l.
-          let t : Takes fs vs Other = subst (Takes fs vs) (sym i) (taken_so x fs X vs β S st l (h ∙ e)) in
+          let t : Takes fs vs None = subst (Takes fs vs) (sym i) (taken_so x fs X vs β S st l (h ∙ e)) in
           rw ((rule_is x.rows fs m.binds (bound m) X r st).0, applied_is (deduce x.phrases d) β vs (remaining m) l (h ∙ e), t k _) (refl, refl);
     }
 
@@ -227,17 +227,17 @@ module _ (s : Shared) (m : M) (y b n r : ℕ) where
 
     module _ (p q z : ℕ) (t u : List ℕ) (fs : List Form) (ps : List Form) (T : Table (used m) fs) (names : Names fs (take n (p ∷ (q ∷ (z ∷ [])))) ps) (arity-is : n ≡ get_or arity r 0) (rule : r ≤ 15)
         (room : m.at.state.props + 1 ≤ length m.forms) (space : m.at.tokens + 5 ≤ length m.tokens) where
-      given_meets : (v : Bool) (g : Form) (a : Applied) → Comes (whether v g (used m)) m.at.state.props fs m.forms t a → ((i j : ℕ) → a ≡ Given i j → u ≡ sets m.tokens m.at.tokens (0 ∷ r ∷ p ∷ q ∷ z ∷ []))
+      given_meets : (v : Bool) (g : Form) (a : Result Formed Why) → Comes (whether v g (used m)) m.at.state.props fs m.forms t a → ((f : Formed) → a ≡ Ok f → u ≡ sets m.tokens m.at.tokens (0 ∷ r ∷ p ∷ q ∷ z ∷ []))
           → Meets 1 0 6 b m fs (out_of t m.binds m.base u (inferred_of m.at n k a)) (must v premise_missing k (out (derived g (infer r ps)) (remaining m)))
       unfolding whether must inferred_of Meets Tells
       given_meets true g a C told =
           let us = (whether true g (used m)).words in
           let w : take (length us) t ≡ us = ap (take (length us)) C.words ∙ take_front us m.forms in
-          let i = C.is _ _ refl in
+          let i = C.is _ refl in
           let low = i.0 in
           let paid = C.paid in
           let long : length t ≡ length m.forms = ap (λ (x : List ℕ). length x) C.words ∙ length_front us m.forms (omega arith) in
-          let W = told _ _ C.answer in
+          let W = told _ C.answer in
           let few = three r in
           let count : length (fs ++ C.more) ≡ length us = C.table.count in
           let ns : List ℕ = take n (p ∷ (q ∷ (z ∷ []))) in
@@ -263,19 +263,19 @@ module _ (s : Shared) (m : M) (y b n r : ℕ) where
           )
       given_meets false g a C told = rw C.answer (refl, refl)
 
-      ruled_meets : (R : Ruled) (β : List Form) (a : Applied) → Alike β (base_of fs m.base b) → Comes (outcome R (base_of fs m.base b) (used m)) m.at.state.props fs m.forms t a
-          → ((i j : ℕ) → a ≡ Given i j → u ≡ sets m.tokens m.at.tokens (0 ∷ r ∷ p ∷ q ∷ z ∷ [])) → Meets 1 0 6 b m fs (out_of t m.binds m.base u (inferred_of m.at n k a)) (inferred R r ps β k (remaining m))
+      ruled_meets : (R : Ruled) (β : List Form) (a : Result Formed Why) → Alike β (base_of fs m.base b) → Comes (outcome R (base_of fs m.base b) (used m)) m.at.state.props fs m.forms t a
+          → ((f : Formed) → a ≡ Ok f → u ≡ sets m.tokens m.at.tokens (0 ∷ r ∷ p ∷ q ∷ z ∷ [])) → Meets 1 0 6 b m fs (out_of t m.binds m.base u (inferred_of m.at n k a)) (inferred R r ps β k (remaining m))
       unfolding outcome inferred inferred_of Meets
       ruled_meets misshapen β a h C told = rw C.answer (refl, refl)
       ruled_meets (gives premises g) β a h C told =
           rw (members_alike β (base_of fs m.base b) h premises) (given_meets (members premises (base_of fs m.base b)) g a C told)
 
-    pub rule_applied : (s₀ : Shared) (c p q z : ℕ) (t u : List ℕ) (o : Conclusion) → Applicable s₀ m (Rule r) y b n → c ≡ get_or arity r 0 → n ≡ c → Props p q z ≡ taken_at m.binds y n 0 0 0
+    pub rule_applied : (s₀ : Shared) (c p q z : ℕ) (t u : List ℕ) (o : Result (ℕ × Progress) Refusal) → Applicable s₀ m (Rule r) y b n → c ≡ get_or arity r 0 → n ≡ c → Some (p, q, z) ≡ taken_at m.binds y n 0 0 0
         → Inferred m.at b r n p q z k m.forms t m.base m.tokens u o → Applying s d (Rule r) y b n k m (out_of t m.binds m.base u o)
     unfolding Takes
     rule_applied s₀ c p q z t u o a e h i I = record {
       meets = λ x fs X vs β S st l.
-          let K : Takes fs vs (Props p q z) = subst (Takes fs vs) (sym i) (taken_so x fs X vs β S st l (h ∙ e)) in
+          let K : Takes fs vs (Some (p, q, z)) = subst (Takes fs vs) (sym i) (taken_so x fs X vs β S st l (h ∙ e)) in
           let T = S.world.legible.table in
           let rf = a.ready.room.inner.forms in let rt = a.ready.room.tokens in
           let is = rule_is x.rows fs m.binds (bound m) X r st in

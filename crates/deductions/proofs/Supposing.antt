@@ -1,4 +1,5 @@
 -- A deduction under a hypothesis, assume and suppose-absurd: one law for each return.
+use Rattle.std.specs.Prelude.{Some, Result, Ok, Err}
 use mathlib.Core.Path.{◌≡◌, refl, sym, ap, subst, ◌∙◌}
 use mathlib.Core.List.{List, [], ◌∷◌, ◌++◌, append_assoc, append-nil}
 use Prim.Native.Nat.{ℕ, ◌+◌, ◌≤◌, ◌<◌}
@@ -35,9 +36,9 @@ use Rattle.expressions.specs.Asked.{Text, Row}
 use Rattle.expressions.specs.Meets.{Evaluated}
 use Rattle.expressions.proofs.Growth.{grew_none as grew_e_none}
 use Rattle.expressions.proofs.Steps.{trees_few}
-use Rattle.deductions.specs.declared.Lemma.TheVariants.{Of}
-use Rattle.deductions.specs.declared.Conclusion.{Conclusion}
-use Rattle.deductions.specs.declared.Conclusion.TheVariants.{Refused}
+use Rattle.language.specs.declared.refusal.Refusal.{Refusal}
+use Rattle.language.specs.declared.refusal.Why.TheVariants.{NotFalse}
+use Rattle.deductions.specs.declared.Progress.{Progress}
 use Rattle.deductions.specs.Machine.{M, mk, progress, inner, remaining, bound, moved, MOut, concluded, refused, out_of, Implied, tollens, Refutation, Refuted}
 use Rattle.deductions.specs.Asked.{In, Setting, Ready, Hypothetical}
 use Rattle.deductions.specs.Meets.{Grew, Meets, Deduced, Stepped, Supposing}
@@ -55,13 +56,13 @@ concluded_by a c t b m m' fs gs l ts p F D e g i d = (gs, ts, g, subst (λ (u : 
 -- under a hypothesis
 
 abbrev pub hyp_on : M → ℕ → ℕ → M
-hyp_on m b p = told_on (joined_on m b (Of p)) (2 ∷ p ∷ []) (m.at.tokens + 2)
+hyp_on m b p = told_on (joined_on m b (Some p)) (2 ∷ p ∷ []) (m.at.tokens + 2)
 
 module _ (s : Shared) (d env b p k : ℕ) (m : M) where
   grew_hyp : (fs : List Form) → m.at.tokens + 2 ≤ length m.tokens → Table (used m) fs → Grew 0 0 3 b m (hyp_on m b p) fs [] (2 ∷ p ∷ [])
   grew_hyp fs h T =
-      grew_on 0 0 1 b 0 0 3 b 0 0 3 m (joined_on m b (Of p)) (hyp_on m b p) fs [] [] (2 ∷ p ∷ []) (grew_joined b b m fs (Of p) (le_refl b) T)
-      (grew_told 3 b (m.at.tokens + 2) (joined_on m b (Of p)) fs (2 ∷ p ∷ []) refl h (omega arith) T) (omega arith) (omega arith) (omega arith) (le_refl b)
+      grew_on 0 0 1 b 0 0 3 b 0 0 3 m (joined_on m b (Some p)) (hyp_on m b p) fs [] [] (2 ∷ p ∷ []) (grew_joined b b m fs (Some p) (le_refl b) T)
+      (grew_told 3 b (m.at.tokens + 2) (joined_on m b (Some p)) fs (2 ∷ p ∷ []) refl h (omega arith) T) (omega arith) (omega arith) (omega arith) (le_refl b)
 
   setting_hyp : (x : Text) (fs : List Form) (e : Env) (β : List Form) → Setting x fs e β s m env b → b < length m.base → p < length fs → Setting x fs e (tree fs p ∷ β) s (hyp_on m b p) env (b + 1)
   setting_hyp x fs e β S h l =
@@ -365,8 +366,8 @@ module _ (s : Shared) (d env b k f j : ℕ) (m : M) (H : Runs s d env b k f j m 
       let lp = z.is_hypothesis.low in let lq = z.concludes.low in
       (omega arith, omega arith, omega arith)
 
-  pub assume_is : (q : ℕ) (m₃ : M) (w : List ℕ) (c : Conclusion) → Ready (In k) s m env b 4 4 11 1 → Supposing s d env b p j (moved m t u st) (concluded q m₃) → Implied p q m₃.at m₃.forms w c
-      → Stepped s d env b k m (out_of w m₃.binds m₃.base m₃.tokens c)
+  pub assume_is : (q : ℕ) (m₃ : M) (w : List ℕ) (c : ℕ × Progress) → Ready (In k) s m env b 4 4 11 1 → Supposing s d env b p j (moved m t u st) (concluded q m₃) → Implied p q m₃.at m₃.forms w c
+      → Stepped s d env b k m (out_of w m₃.binds m₃.base m₃.tokens (Ok c))
   unfolding formed Below
   assume_is q m₃ w c r U I = record {
     meets = λ x fs e β S l.
@@ -464,7 +465,7 @@ module _ (b : ℕ) (m : M) (fs : List Form) (p : ℕ) (P : Form) (t u w : List �
           let H = forms b (formed_on (formed_on m t r) u q) w v ((fs ++ F.more) ++ G.more) (neg_r p) G.table f.low (omega arith) (omega arith) I in
           subst (Forms b (formed_on (formed_on m t r) u q) w v ((fs ++ F.more) ++ G.more)) (ap neg f.tree) H
 
-three_refute : (b : ℕ) (m : M) (fs : List Form) (p : ℕ) (P : Form) (w u₀ y : List ℕ) (c : Conclusion) → Table (used m) fs → Is fs p P → m.at.state.props + 3 ≤ length m.forms → length m.forms ≤ 16384 → (I : Refutation p m.at m.forms w u₀ y c)
+three_refute : (b : ℕ) (m : M) (fs : List Form) (p : ℕ) (P : Form) (w u₀ y : List ℕ) (c : Result (ℕ × Progress) Refusal) → Table (used m) fs → Is fs p P → m.at.state.props + 3 ≤ length m.forms → length m.forms ≤ 16384 → (I : Refutation p m.at m.forms w u₀ y c)
     → Three b m (formed_on (formed_on (formed_on m I.once I.implied) I.twice I.absurd) w I.denied) fs I.implied.at I.absurd.at I.denied.at (bin cond P falsum) (neg falsum) (neg P)
 three_refute b m fs p P w u₀ y c T i room small I =
     go (implies b m fs p P I.once I.twice w I.implied I.absurd I.denied T i room small I.first)
@@ -516,7 +517,7 @@ module _ (s : Shared) (d env b k f j : ℕ) (m : M) (H : Runs s d env b k f j m 
       let lp = z.is_hypothesis.low in
       (omega arith, R.inner.small, omega arith, R.short, omega arith)
 
-  module _ (q : ℕ) (m₃ : M) (w y : List ℕ) (c : Conclusion) (r : Ready (In k) s m env b 4 4 11 1) (U : Supposing s d env b p j begun (concluded q m₃)) (long : length y ≡ length m₃.tokens) where
+  module _ (q : ℕ) (m₃ : M) (w y : List ℕ) (c : Result (ℕ × Progress) Refusal) (r : Ready (In k) s m env b 4 4 11 1) (U : Supposing s d env b p j begun (concluded q m₃)) (long : length y ≡ length m₃.tokens) where
     abbrev after_it : MOut
     after_it = out_of w m₃.binds m₃.base y c
 
@@ -535,7 +536,7 @@ module _ (s : Shared) (d env b k f j : ℕ) (m : M) (H : Runs s d env b k f j m 
           ap (λ (F : Form). same F falsum) (sym Z.concludes.tree) ∙ ap (same (tree (fs ++ Z.more) q)) (sym (falsity_at (used m₃) (fs ++ Z.more) T))
           ∙ same_at (used m₃) (fs ++ Z.more) T q 1 (omega arith) (omega arith)
 
-      other_meets : (q ≡ 1 → ⊥) → c ≡ Refused not_false k → Meets 4 4 11 b m fs after_it (refuting k Z.hypothesis Z.derived (remaining m₃))
+      other_meets : (q ≡ 1 → ⊥) → c ≡ Err (record { 0 = NotFalse; 1 = k }) → Meets 4 4 11 b m fs after_it (refuting k Z.hypothesis Z.derived (remaining m₃))
       unfolding must Meets
       other_meets h g = rw (g, tested, ne_eqb q 1 h) (refl, refl)
 

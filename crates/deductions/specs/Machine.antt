@@ -1,7 +1,10 @@
 -- The state of a run as one value, answers with what they leave, and what the smallest functions give.
-use Rattle.std.specs.Prelude.{◌≡◌, Bool, true, false, List, [], ◌∷◌, ◌++◌, ℕ, zero, suc, ◌+◌, ◌*◌, ◌-◌, ◌<◌, ◌≤◌, length, set, take, eqb}
+use Rattle.std.specs.Prelude.{◌≡◌, Bool, true, false, List, [], ◌∷◌, ◌++◌, ℕ, zero, suc, ◌+◌, ◌*◌, ◌-◌, ◌<◌, ◌≤◌, length, set, take, eqb, Option, Some, None, Result, Ok, Err}
 use Rattle.std.proofs.lemmas.List.Edits.{sets}
-use Rattle.language.specs.Refusals.{wrong_kind, announced_differs, not_false}
+use Rattle.language.specs.Numbered.{number_of}
+use Rattle.language.specs.declared.refusal.Refusal.{Refusal}
+use Rattle.language.specs.declared.refusal.Why.{Why}
+use Rattle.language.specs.declared.refusal.Why.TheVariants.{WrongKind, AnnouncedDiffers, NotFalse}
 use Rattle.language.specs.Form.{cond}
 use Rattle.forms.specs.Word.{code, neg_r, bin_r}
 use Rattle.forms.specs.Interned.{Interned}
@@ -9,22 +12,10 @@ use Rattle.forms.specs.declared.Formed.{Formed}
 use Rattle.bindings.specs.declared.Value.{Value}
 use Rattle.bindings.specs.declared.Value.TheVariants.{Prop, Constructor, Rule, Function, Method}
 use Rattle.bindings.specs.Numbers.{value_at, next_at}
-use Rattle.rules.specs.declared.Applied.{Applied}
-use Rattle.rules.specs.declared.Applied.TheVariants.{Given, Misshapen, Missing}
-use Rattle.rules.specs.Applied.{Ruling, applied_number}
+use Rattle.rules.specs.Applied.{Ruling}
 use Rattle.expressions.specs.declared.State.{State}
 use Rattle.expressions.specs.Machine.{counters, mk as mkE, M as ME}
 use Rattle.deductions.specs.declared.Progress.{Progress}
-use Rattle.deductions.specs.declared.Lemma.{Lemma}
-use Rattle.deductions.specs.declared.Lemma.TheVariants.{Of, None}
-use Rattle.deductions.specs.declared.Conclusion.{Conclusion}
-use Rattle.deductions.specs.declared.Conclusion.TheVariants.{Concluded, Refused}
-use Rattle.deductions.specs.declared.Operand.{Operand}
-use Rattle.deductions.specs.declared.Operand.TheVariants.{Got, Lacking}
-use Rattle.deductions.specs.declared.Listing.{Listing}
-use Rattle.deductions.specs.declared.Listing.TheVariants.{Pushed, Stopped}
-use Rattle.deductions.specs.declared.Taken.{Taken}
-use Rattle.deductions.specs.declared.Taken.TheVariants.{Props, Other}
 
 -- the four buffers that change, and how far the run is
 pub record M : Type 0 where
@@ -67,53 +58,53 @@ pub data MOut : Type 0 where
   concluded : ℕ → M → MOut
   refused : ℕ → ℕ → MOut
 
-abbrev pub out_of : List ℕ → List ℕ → List ℕ → List ℕ → Conclusion → MOut
-out_of f b s t (Concluded p at) = concluded p (mk f b s t at)
-out_of f b s t (Refused x y) = refused x y
+abbrev pub out_of : List ℕ → List ℕ → List ℕ → List ℕ → Result (ℕ × Progress) Refusal → MOut
+out_of f b s t (Ok p) = concluded p.0 (mk f b s t p.1)
+out_of f b s t (Err r) = refused (number_of r.0) r.1
 
 -- a phrase of either class that has run: its value, its lemma, and what it leaves
 pub data MOperand : Type 0 where
-  got : Value → Lemma → M → MOperand
+  got : Value → Option ℕ → M → MOperand
   lacking : ℕ → ℕ → MOperand
 
-abbrev pub operand_of : List ℕ → List ℕ → List ℕ → List ℕ → Operand → MOperand
-operand_of f b s t (Got v l at) = got v l (mk f b s t at)
-operand_of f b s t (Lacking x y) = lacking x y
+abbrev pub operand_of : List ℕ → List ℕ → List ℕ → List ℕ → Result (Value × Option ℕ × Progress) Refusal → MOperand
+operand_of f b s t (Ok p) = got p.0 p.1 (mk f b s t p.2)
+operand_of f b s t (Err r) = lacking (number_of r.0) r.1
 
 -- arguments that have run: the start of their chain, the base's count, and what they leave
 pub data MArgs : Type 0 where
   pushed : ℕ → ℕ → M → MArgs
   stopped : ℕ → ℕ → MArgs
 
-abbrev pub args_of : List ℕ → List ℕ → List ℕ → List ℕ → Listing → MArgs
-args_of f b s t (Pushed y c at) = pushed y c (mk f b s t at)
-args_of f b s t (Stopped x y) = stopped x y
+abbrev pub args_of : List ℕ → List ℕ → List ℕ → List ℕ → Result (ℕ × ℕ × Progress) Refusal → MArgs
+args_of f b s t (Ok p) = pushed p.0 p.1 (mk f b s t p.2)
+args_of f b s t (Err r) = stopped (number_of r.0) r.1
 
 -- a lemma on the base's stack: what the buffer then holds, and how many numbers join
-abbrev pub joined_at : List ℕ → ℕ → Lemma → List ℕ
-joined_at s b (Of p) = set s b p
+abbrev pub joined_at : List ℕ → ℕ → Option ℕ → List ℕ
+joined_at s b (Some p) = set s b p
 joined_at s b None = s
 
-abbrev pub joining : Lemma → ℕ
-joining (Of p) = 1
+abbrev pub joining : Option ℕ → ℕ
+joining (Some p) = 1
 joining None = 0
 
 -- the number fits a cell
-abbrev pub LowLemma : Lemma → Type 0
-LowLemma (Of p) = p < 16384
+abbrev pub LowLemma : Option ℕ → Type 0
+LowLemma (Some p) = p < 16384
 LowLemma None = Unit {0}
 
 -- arguments read off a chain, the last first, all of which must be propositions
-unfoldable pub taken_by : Value → (ℕ → Taken) → Taken
+unfoldable pub taken_by : Value → (ℕ → Option (ℕ × ℕ × ℕ)) → Option (ℕ × ℕ × ℕ)
 taken_by (Prop p) f = f p
-taken_by (Constructor c) f = Other
-taken_by (Rule r) f = Other
-taken_by (Function c) f = Other
-taken_by (Method c) f = Other
+taken_by (Constructor c) f = None
+taken_by (Rule r) f = None
+taken_by (Function c) f = None
+taken_by (Method c) f = None
 
-unfoldable pub taken_at : List ℕ → ℕ → ℕ → ℕ → ℕ → ℕ → Taken
+unfoldable pub taken_at : List ℕ → ℕ → ℕ → ℕ → ℕ → ℕ → Option (ℕ × ℕ × ℕ)
 unfolding taken_by
-taken_at t e zero x y z = Props x y z
+taken_at t e zero x y z = Some (x, y, z)
 taken_at t e (suc n) x y z = taken_by (value_at t (e - 1)) (λ p. taken_at t (next_at t (e - 1)) n p x y)
 
 -- a chain that has so many bindings
@@ -122,30 +113,29 @@ Long t e zero = Unit {0}
 Long t e (suc n) = (0 < e) × (4 * (e - 1) + 4 ≤ length t) × Long t (next_at t (e - 1)) n
 
 -- a conditional formed in the table
-pub record Implied (p q : ℕ) (at : Progress) (t₀ t : List ℕ) (x : Conclusion) : Type 0 where
+pub record Implied (p q : ℕ) (at : Progress) (t₀ t : List ℕ) (x : ℕ × Progress) : Type 0 where
   pub formed : Formed
-  pub outcome : x ≡ Concluded formed.at (progress (counters formed.size at.state.bindings at.state.remaining.0) at.tokens)
+  pub outcome : x ≡ (formed.at, progress (counters formed.size at.state.bindings at.state.remaining.0) at.tokens)
   pub interned : Interned (code (bin_r cond p q)) at.state.props t₀ t formed
 
 -- a rule's answer as a conclusion
-unfoldable pub inferred_of : Progress → ℕ → ℕ → Applied → Conclusion
-inferred_of at n k (Given p m) = Concluded p (progress (counters m at.state.bindings at.state.remaining.0) (at.tokens + 2 + n))
-inferred_of at n k Misshapen = Refused (applied_number Misshapen) k
-inferred_of at n k Missing = Refused (applied_number Missing) k
+unfoldable pub inferred_of : Progress → ℕ → ℕ → Result Formed Why → Result (ℕ × Progress) Refusal
+inferred_of at n k (Ok f) = Ok (f.at, progress (counters f.size at.state.bindings at.state.remaining.0) (at.tokens + 2 + n))
+inferred_of at n k (Err w) = Err (record { 0 = w; 1 = k })
 
 -- what rule r gives of n arguments x, y and z, and the tokens that tell it
-pub record Inferred (at : Progress) (b r n x y z k : ℕ) (t₀ t s u₀ u : List ℕ) (c : Conclusion) : Type 0 where
-  pub answer : Applied
+pub record Inferred (at : Progress) (b r n x y z k : ℕ) (t₀ t s u₀ u : List ℕ) (c : Result (ℕ × Progress) Refusal) : Type 0 where
+  pub answer : Result Formed Why
   pub ruling : Ruling t₀ at.state.props s b r x y z t answer
   pub outcome : c ≡ inferred_of at n k answer
-  pub told : (p m : ℕ) → answer ≡ Given p m → u ≡ sets u₀ at.tokens (0 ∷ r ∷ x ∷ y ∷ z ∷ [])
+  pub told : (f : Formed) → answer ≡ Ok f → u ≡ sets u₀ at.tokens (0 ∷ r ∷ x ∷ y ∷ z ∷ [])
 
 -- the tokens that follow a hypothesis' proof where it is refuted: false-elim, then modus-tollens at x and y
 abbrev pub tollens : ℕ → ℕ → List ℕ
 tollens x y = 1 ∷ 0 ∷ 15 ∷ 0 ∷ 2 ∷ x ∷ y ∷ []
 
 -- p refuted: p⇒false, ¬false and ¬p are formed, and the tokens are written
-pub record Refutation (p : ℕ) (at : Progress) (t₀ t u₀ u : List ℕ) (c : Conclusion) : Type 0 where
+pub record Refutation (p : ℕ) (at : Progress) (t₀ t u₀ u : List ℕ) (c : Result (ℕ × Progress) Refusal) : Type 0 where
   pub implied : Formed
   pub absurd : Formed
   pub denied : Formed
@@ -155,22 +145,22 @@ pub record Refutation (p : ℕ) (at : Progress) (t₀ t u₀ u : List ℕ) (c : 
   pub second : Interned (code (neg_r 1)) implied.size once twice absurd
   pub third : Interned (code (neg_r p)) absurd.size twice t denied
   pub told : take (at.tokens + 7) u ≡ take at.tokens u₀ ++ tollens implied.at absurd.at
-  pub outcome : c ≡ Concluded denied.at (progress (counters denied.size at.state.bindings at.state.remaining.0) (at.tokens + 7))
+  pub outcome : c ≡ Ok (denied.at, progress (counters denied.size at.state.bindings at.state.remaining.0) (at.tokens + 7))
 
 -- p refuted where q is false, else the refusal
-pub record Refuted (p q k : ℕ) (at : Progress) (t₀ t u₀ u : List ℕ) (c : Conclusion) : Type 0 where
+pub record Refuted (p q k : ℕ) (at : Progress) (t₀ t u₀ u : List ℕ) (c : Result (ℕ × Progress) Refusal) : Type 0 where
   pub false : q ≡ 1 → Refutation p at t₀ t u₀ u c
-  pub other : (q ≡ 1 → ⊥) → c ≡ Refused not_false k
+  pub other : (q ≡ 1 → ⊥) → c ≡ Err (record { 0 = NotFalse; 1 = k })
 
 -- an announced value against the conclusion q
-unfoldable pub compared_by : Bool → State → ℕ → ℕ → ℕ → Conclusion
-compared_by true st n q k = Concluded q (progress st n)
-compared_by false st n q k = Refused announced_differs k
+unfoldable pub compared_by : Bool → State → ℕ → ℕ → ℕ → Result (ℕ × Progress) Refusal
+compared_by true st n q k = Ok (q, progress st n)
+compared_by false st n q k = Err (record { 0 = AnnouncedDiffers; 1 = k })
 
-unfoldable pub compared_of : Value → State → ℕ → ℕ → ℕ → Conclusion
+unfoldable pub compared_of : Value → State → ℕ → ℕ → ℕ → Result (ℕ × Progress) Refusal
 unfolding compared_by
 compared_of (Prop p) st n q k = compared_by (eqb p q) st n q k
-compared_of (Constructor c) st n q k = Refused wrong_kind k
-compared_of (Rule r) st n q k = Refused wrong_kind k
-compared_of (Function c) st n q k = Refused wrong_kind k
-compared_of (Method c) st n q k = Refused wrong_kind k
+compared_of (Constructor c) st n q k = Err (record { 0 = WrongKind; 1 = k })
+compared_of (Rule r) st n q k = Err (record { 0 = WrongKind; 1 = k })
+compared_of (Function c) st n q k = Err (record { 0 = WrongKind; 1 = k })
+compared_of (Method c) st n q k = Err (record { 0 = WrongKind; 1 = k })

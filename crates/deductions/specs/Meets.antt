@@ -1,5 +1,5 @@
 -- What the functions promise: from every text, propositions, bindings and base that the state stands for, the answer is the language's.
-use Rattle.std.specs.Prelude.{◌≡◌, List, [], ◌∷◌, ◌++◌, ℕ, ◌+◌, ◌*◌, ◌-◌, ◌≤◌, ◌<◌, length, get_or, take, drop}
+use Rattle.std.specs.Prelude.{◌≡◌, List, [], ◌∷◌, ◌++◌, ℕ, ◌+◌, ◌*◌, ◌-◌, ◌≤◌, ◌<◌, length, get_or, take, drop, Option, Some, None}
 use Rattle.language.specs.Form.{Form}
 use Rattle.language.specs.Plain.{under}
 use Rattle.language.specs.Values.{Val, Env, Out, out, stop, next, with_all, with_forms, scope}
@@ -13,8 +13,6 @@ use Rattle.tokens.specs.Tells.{Tells, TellsLemmas}
 use Rattle.expressions.specs.Machine.{Shared, two, listed}
 use Rattle.expressions.specs.Asked.{Text}
 use Rattle.expressions.specs.Meets.{Grew as GrewE}
-use Rattle.deductions.specs.declared.Lemma.{Lemma}
-use Rattle.deductions.specs.declared.Lemma.TheVariants.{Of, None}
 use Rattle.deductions.specs.Machine.{M, inner, remaining, bound, joining, MOut, concluded, refused, MOperand, got, lacking, MArgs, pushed, stopped}
 use Rattle.deductions.specs.Asked.{In, Ins, Based, Setting}
 
@@ -49,8 +47,8 @@ pub record Stepped (s : Shared) (d env b k : ℕ) (m : M) (o : MOut) : Type 0 wh
       Meets 4 4 11 b m fs o (deduce_step x.phrases (evaluate x.phrases d) (deduce x.phrases d) e β k (remaining m))
 
 -- the number of a lemma's conclusion, where there is a lemma
-unfoldable pub Lemmas : List Form → Lemma → List Derived → Type 0
-Lemmas fs (Of p) ds = (d : Derived) × (ds ≡ d ∷ []) × Is fs p d.conclusion
+unfoldable pub Lemmas : List Form → Option ℕ → List Derived → Type 0
+Lemmas fs (Some p) ds = (d : Derived) × (ds ≡ d ∷ []) × Is fs p d.conclusion
 Lemmas fs None ds = ds ≡ []
 
 -- a phrase of either class: its value, its lemma, and the tokens of the lemma; a lemma is paid for by the work that it spent

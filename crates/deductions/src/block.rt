@@ -5,10 +5,10 @@ ghost use Rattle.deductions.specs.Machine.{mk, out_of, compared_of};
 ghost use Rattle.deductions.specs.Asked.{In, Ready, Steplist};
 ghost use Rattle.deductions.specs.Meets.{Stepped, Stepping};
 
-use crate::{Conclusion, Operand, Progress, Site, deduce, either, operands};
+use crate::{Progress, Site, deduce, either, operands};
 use bindings::Value;
-use expressions::{Outcome, State};
-use language::refusal;
+use expressions::State;
+use language::{Refusal, Why};
 use records::rows;
 
 // A dlet: the value of the first, whose lemma joins the base, then the second with it bound.
@@ -23,26 +23,20 @@ pub(crate) fn bind(
     at: Progress,
     site: Site,
     k: usize,
-) -> Conclusion
+) -> Result<(usize, Progress), Refusal>
     requires { Ready (In k) (shared phrases.now patterns.now) (mk forms.old binds.old base.old tokens.old at) site.env site.base 4 4 11 1 × (kind phrases.now k ≡ 19) }
     ensures { Stepped (shared phrases.now patterns.now) site.depth site.env site.base k (mk forms.old binds.old base.old tokens.old at) (out_of forms.new binds.new base.new tokens.new result) }
 {
     let f = words::at(phrases, rows::PHRASE * k + 1);
     let d = words::at(phrases, rows::PHRASE * k + 2);
-    match either(forms, binds, base, tokens, phrases, patterns, at, site, f) {
-        Operand::Got(v, l, at1) => {
-            let c = operands::join(base, site.base, l);
-            let at2 = operands::with(binds, at1, v, site.env);
-            let st = at2.state;
-            let there = Site {
-                base: c,
-                env: st.bindings,
-                depth: site.depth,
-            };
-            deduce(forms, binds, base, tokens, phrases, patterns, at2, there, d)
-        }
-        Operand::Lacking(x, y) => Conclusion::Refused(x, y),
-    }
+    let (v, l, at1) = either(forms, binds, base, tokens, phrases, patterns, at, site, f)?;
+    let at2 = operands::with(binds, at1, v, site.env);
+    let there = Site {
+        base: operands::join(base, site.base, l),
+        env: at2.state.bindings,
+        ..site
+    };
+    deduce(forms, binds, base, tokens, phrases, patterns, at2, there, d)
 }
 
 // A by: the deduction, then the announced proposition, which must be its conclusion.
@@ -57,43 +51,37 @@ pub(crate) fn announced(
     at: Progress,
     site: Site,
     k: usize,
-) -> Conclusion
+) -> Result<(usize, Progress), Refusal>
     requires { Ready (In k) (shared phrases.now patterns.now) (mk forms.old binds.old base.old tokens.old at) site.env site.base 4 4 11 1 × (kind phrases.now k ≡ 20) }
     ensures { Stepped (shared phrases.now patterns.now) site.depth site.env site.base k (mk forms.old binds.old base.old tokens.old at) (out_of forms.new binds.new base.new tokens.new result) }
 {
     let f = words::at(phrases, rows::PHRASE * k + 1);
     let d = words::at(phrases, rows::PHRASE * k + 2);
-    match deduce(forms, binds, base, tokens, phrases, patterns, at, site, d) {
-        Conclusion::Concluded(q, at1) => {
-            let st = at1.state;
-            let env = site.env;
-            let depth = site.depth;
-            match expressions::evaluate(forms, binds, phrases, patterns, st, env, f, depth) {
-                Outcome::Done(v, st1) => compare(v, st1, at1.tokens, q, k),
-                Outcome::Refused(x, y) => Conclusion::Refused(x, y),
-            }
-        }
-        Conclusion::Refused(x, y) => Conclusion::Refused(x, y),
-    }
+    let (q, at1) = deduce(forms, binds, base, tokens, phrases, patterns, at, site, d)?;
+    let (v, state) = expressions::evaluate(
+        forms, binds, phrases, patterns, at1.state, site.env, f, site.depth,
+    )?;
+    compare(v, state, at1.tokens, q, k)
 }
 
 // The conclusion q, where it is the announced value v, which must be a proposition.
-fn compare(v: Value, st: State, n: usize, q: usize, k: usize) -> Conclusion
-    ensures { result ≡ compared_of v st n q k }
+#[tactic(auto, unfolding(crate::specs::Machine::compared_of, crate::specs::Machine::compared_by))]
+fn compare(
+    v: Value,
+    state: State,
+    tokens: usize,
+    q: usize,
+    k: usize,
+) -> Result<(usize, Progress), Refusal>
+    ensures { result ≡ compared_of v state tokens q k }
 {
     let Value::Prop(p) = v else {
-        return Conclusion::Refused(refusal::WRONG_KIND, k);
+        return Err(Refusal(Why::WrongKind, k));
     };
-    if p == q {
-        return Conclusion::Concluded(
-            q,
-            Progress {
-                state: st,
-                tokens: n,
-            },
-        );
+    if p != q {
+        return Err(Refusal(Why::AnnouncedDiffers, k));
     }
-    Conclusion::Refused(refusal::ANNOUNCED_DIFFERS, k)
+    Ok((q, Progress { state, tokens }))
 }
 
 // A block: its steps.
@@ -108,7 +96,7 @@ pub(crate) fn block(
     at: Progress,
     site: Site,
     k: usize,
-) -> Conclusion
+) -> Result<(usize, Progress), Refusal>
     requires { Ready (In k) (shared phrases.now patterns.now) (mk forms.old binds.old base.old tokens.old at) site.env site.base 4 4 11 1 × (kind phrases.now k ≡ 21) }
     ensures { Stepped (shared phrases.now patterns.now) site.depth site.env site.base k (mk forms.old binds.old base.old tokens.old at) (out_of forms.new binds.new base.new tokens.new result) }
 {
@@ -140,7 +128,7 @@ fn steps(
     site: Site,
     from: usize,
     left: usize,
-) -> Conclusion
+) -> Result<(usize, Progress), Refusal>
     requires { Steplist (shared phrases.now patterns.now) (mk forms.old binds.old base.old tokens.old at) site.env site.base from left }
     ensures { Stepping (shared phrases.now patterns.now) site.depth site.env site.base from left (mk forms.old binds.old base.old tokens.old at) (out_of forms.new binds.new base.new tokens.new result) }
 {
@@ -148,26 +136,21 @@ fn steps(
     if left == 1 {
         return deduce(forms, binds, base, tokens, phrases, patterns, at, site, k);
     }
-    match either(forms, binds, base, tokens, phrases, patterns, at, site, k) {
-        Operand::Got(v, l, at1) => {
-            let there = Site {
-                base: operands::join(base, site.base, l),
-                env: site.env,
-                depth: site.depth,
-            };
-            steps(
-                forms,
-                binds,
-                base,
-                tokens,
-                phrases,
-                patterns,
-                at1,
-                there,
-                from + 1,
-                left - 1,
-            )
-        }
-        Operand::Lacking(x, y) => Conclusion::Refused(x, y),
-    }
+    let (_, l, at1) = either(forms, binds, base, tokens, phrases, patterns, at, site, k)?;
+    let there = Site {
+        base: operands::join(base, site.base, l),
+        ..site
+    };
+    steps(
+        forms,
+        binds,
+        base,
+        tokens,
+        phrases,
+        patterns,
+        at1,
+        there,
+        from + 1,
+        left - 1,
+    )
 }

@@ -5,10 +5,10 @@ ghost use Rattle.deductions.specs.Machine.{mk, out_of, Implied, tollens, Refuted
 ghost use Rattle.deductions.specs.Asked.{In, Ready, Hypothetical};
 ghost use Rattle.deductions.specs.Meets.{Stepped, Supposing};
 
-use crate::{Conclusion, Progress, Site, deduce};
+use crate::{Progress, Site, deduce};
 use bindings::Value;
-use expressions::{Outcome, State};
-use language::{refusal, rule};
+use expressions::State;
+use language::{Refusal, Why, rule};
 use records::rows;
 
 // An assume: the hypothesis' value, then the deduction under it; gives the conditional.
@@ -23,33 +23,23 @@ pub(crate) fn assume(
     at: Progress,
     site: Site,
     k: usize,
-) -> Conclusion
+) -> Result<(usize, Progress), Refusal>
     requires { Ready (In k) (shared phrases.now patterns.now) (mk forms.old binds.old base.old tokens.old at) site.env site.base 4 4 11 1 × (kind phrases.now k ≡ 17) }
     ensures { Stepped (shared phrases.now patterns.now) site.depth site.env site.base k (mk forms.old binds.old base.old tokens.old at) (out_of forms.new binds.new base.new tokens.new result) }
 {
     let f = words::at(phrases, rows::PHRASE * k + 1);
     let d = words::at(phrases, rows::PHRASE * k + 2);
-    let st = at.state;
-    let env = site.env;
-    let depth = site.depth;
-    match expressions::evaluate(forms, binds, phrases, patterns, st, env, f, depth) {
-        Outcome::Done(v, st1) => {
-            let Value::Prop(p) = v else {
-                return Conclusion::Refused(refusal::WRONG_KIND, k);
-            };
-            let at1 = Progress {
-                state: st1,
-                tokens: at.tokens,
-            };
-            match under(
-                forms, binds, base, tokens, phrases, patterns, at1, site, p, d,
-            ) {
-                Conclusion::Concluded(q, at2) => imply(forms, at2, p, q),
-                Conclusion::Refused(x, y) => Conclusion::Refused(x, y),
-            }
-        }
-        Outcome::Refused(x, y) => Conclusion::Refused(x, y),
-    }
+    let (v, state) = expressions::evaluate(
+        forms, binds, phrases, patterns, at.state, site.env, f, site.depth,
+    )?;
+    let Value::Prop(p) = v else {
+        return Err(Refusal(Why::WrongKind, k));
+    };
+    let at1 = Progress { state, ..at };
+    let (q, at2) = under(
+        forms, binds, base, tokens, phrases, patterns, at1, site, p, d,
+    )?;
+    Ok(imply(forms, at2, p, q))
 }
 
 // A suppose-absurd: the hypothesis' value, then the deduction under it, which must conclude false; gives the negation.
@@ -64,34 +54,26 @@ pub(crate) fn suppose(
     at: Progress,
     site: Site,
     k: usize,
-) -> Conclusion
+) -> Result<(usize, Progress), Refusal>
     requires { Ready (In k) (shared phrases.now patterns.now) (mk forms.old binds.old base.old tokens.old at) site.env site.base 4 4 11 1 × (kind phrases.now k ≡ 18) }
     ensures { Stepped (shared phrases.now patterns.now) site.depth site.env site.base k (mk forms.old binds.old base.old tokens.old at) (out_of forms.new binds.new base.new tokens.new result) }
 {
     let f = words::at(phrases, rows::PHRASE * k + 1);
     let d = words::at(phrases, rows::PHRASE * k + 2);
-    let st = at.state;
-    let env = site.env;
-    let depth = site.depth;
-    match expressions::evaluate(forms, binds, phrases, patterns, st, env, f, depth) {
-        Outcome::Done(v, st1) => {
-            let Value::Prop(p) = v else {
-                return Conclusion::Refused(refusal::WRONG_KIND, k);
-            };
-            let n = tokens::sequence(tokens, at.tokens);
-            let at1 = Progress {
-                state: st1,
-                tokens: n,
-            };
-            match under(
-                forms, binds, base, tokens, phrases, patterns, at1, site, p, d,
-            ) {
-                Conclusion::Concluded(q, at2) => refute(forms, tokens, at2, p, q, k),
-                Conclusion::Refused(x, y) => Conclusion::Refused(x, y),
-            }
-        }
-        Outcome::Refused(x, y) => Conclusion::Refused(x, y),
-    }
+    let (v, state) = expressions::evaluate(
+        forms, binds, phrases, patterns, at.state, site.env, f, site.depth,
+    )?;
+    let Value::Prop(p) = v else {
+        return Err(Refusal(Why::WrongKind, k));
+    };
+    let at1 = Progress {
+        state,
+        tokens: tokens::sequence(tokens, at.tokens),
+    };
+    let (q, at2) = under(
+        forms, binds, base, tokens, phrases, patterns, at1, site, p, d,
+    )?;
+    refute(forms, tokens, at2, p, q, k)
 }
 
 // The deduction k in the base with the hypothesis p, which is written before its proof.
@@ -107,45 +89,34 @@ fn under(
     site: Site,
     p: usize,
     k: usize,
-) -> Conclusion
+) -> Result<(usize, Progress), Refusal>
     requires { Hypothetical (shared phrases.now patterns.now) (mk forms.old binds.old base.old tokens.old at) site.env site.base p k }
     ensures { Supposing (shared phrases.now patterns.now) site.depth site.env site.base p k (mk forms.old binds.old base.old tokens.old at) (out_of forms.new binds.new base.new tokens.new result) }
 {
     let b = site.base;
     words::put(base, b, p);
-    let n = tokens::hypothesis(tokens, at.tokens, p);
-    let st = at.state;
     let at1 = Progress {
-        state: st,
-        tokens: n,
+        tokens: tokens::hypothesis(tokens, at.tokens, p),
+        ..at
     };
     let there = Site {
         base: b + 1,
-        env: site.env,
-        depth: site.depth,
+        ..site
     };
     deduce(forms, binds, base, tokens, phrases, patterns, at1, there, k)
 }
 
 // p if-then q.
-fn imply(forms: &mut [u32], at: Progress, p: usize, q: usize) -> Conclusion
+fn imply(forms: &mut [u32], at: Progress, p: usize, q: usize) -> (usize, Progress)
     requires { (at.state.props < length forms.old) × (p < 16384) × (q < 16384) }
     ensures { Implied p q at forms.old forms.new result }
 {
-    let st = at.state;
-    let made = forms::conditional(forms, st.props, p, q);
-    let remaining = st.remaining;
-    Conclusion::Concluded(
-        made.at,
-        Progress {
-            state: State {
-                props: made.size,
-                bindings: st.bindings,
-                remaining: remaining,
-            },
-            tokens: at.tokens,
-        },
-    )
+    let made = forms::conditional(forms, at.state.props, p, q);
+    let state = State {
+        props: made.size,
+        ..at.state
+    };
+    (made.at, Progress { state, ..at })
 }
 
 // Not p, where its proof concluded q and q is false; else refusal 16.
@@ -156,30 +127,22 @@ fn refute(
     p: usize,
     q: usize,
     k: usize,
-) -> Conclusion
+) -> Result<(usize, Progress), Refusal>
     requires { (at.state.props + 3 ≤ length forms.old) × (length forms.old ≤ 16384) × (at.tokens + 8 ≤ length tokens.old) × (length tokens.old ≤ 16384) × (p < 16384) }
     ensures { Refuted p q k at forms.old forms.new tokens.old tokens.new result }
 {
-    if q == forms::FALSE {
-        let st = at.state;
-        let implied = forms::conditional(forms, st.props, p, forms::FALSE);
-        let absurd = forms::negation(forms, implied.size, forms::FALSE);
-        let denied = forms::negation(forms, absurd.size, p);
-        let n = tollens(tokens, at.tokens, implied.at, absurd.at);
-        let remaining = st.remaining;
-        return Conclusion::Concluded(
-            denied.at,
-            Progress {
-                state: State {
-                    props: denied.size,
-                    bindings: st.bindings,
-                    remaining: remaining,
-                },
-                tokens: n,
-            },
-        );
+    if q != forms::FALSE {
+        return Err(Refusal(Why::NotFalse, k));
     }
-    Conclusion::Refused(refusal::NOT_FALSE, k)
+    let implied = forms::conditional(forms, at.state.props, p, forms::FALSE);
+    let absurd = forms::negation(forms, implied.size, forms::FALSE);
+    let denied = forms::negation(forms, absurd.size, p);
+    let state = State {
+        props: denied.size,
+        ..at.state
+    };
+    let n = tollens(tokens, at.tokens, implied.at, absurd.at);
+    Ok((denied.at, Progress { state, tokens: n }))
 }
 
 // False-elim, then modus-tollens at x and y, after a 1.

@@ -7,11 +7,10 @@ ghost use Rattle.deductions.specs.Machine.{mk, out_of, taken_at, Long, Inferred}
 ghost use Rattle.deductions.specs.Asked.{Applicable};
 ghost use Rattle.deductions.specs.Meets.{Applying};
 
-use crate::{Conclusion, Progress, Site, Taken};
+use crate::{Progress, Site};
 use bindings::Value;
 use expressions::State;
-use language::refusal;
-use rules::Applied;
+use language::{Refusal, Why};
 
 // What rule r makes of n arguments, which are bound where it runs: the count first, then that all are propositions, then the rule itself.
 pub(crate) fn infer(
@@ -24,22 +23,21 @@ pub(crate) fn infer(
     r: usize,
     n: usize,
     k: usize,
-) -> Conclusion
+) -> Result<(usize, Progress), Refusal>
     requires { (s : Shared) × Applicable s (mk forms.old binds.now base.now tokens.old at) (Rule r) site.env site.base n }
     ensures { (s : Shared) (d : ℕ) → Applying s d (Rule r) site.env site.base n k (mk forms.old binds.now base.now tokens.old at) (out_of forms.new binds.now base.now tokens.new result) }
 {
-    if n == language::arguments(r) {
-        return match gather(binds, site.env, n, 0, 0, 0) {
-            Taken::Props(x, y, z) => {
-                conclude(forms, base, tokens, at, site.base, r, n, x, y, z, k)
-            }
-            Taken::Other => Conclusion::Refused(refusal::WRONG_KIND, k),
-        };
+    if n != language::arguments(r) {
+        return Err(Refusal(Why::WrongCount, k));
     }
-    Conclusion::Refused(refusal::WRONG_COUNT, k)
+    let Some((x, y, z)) = gather(binds, site.env, n, 0, 0, 0) else {
+        return Err(Refusal(Why::WrongKind, k));
+    };
+    conclude(forms, base, tokens, at, site.base, r, n, x, y, z, k)
 }
 
-// Rule r at its n arguments x, y and z: the conclusion, and the tokens of the rule; or that shapes (13) or premises (14) fail.
+// Rule r at its n arguments x, y and z: the conclusion, and the tokens of the rule; or that shapes or premises fail.
+#[tactic(auto, unfolding(crate::specs::Machine::inferred_of))]
 fn conclude(
     forms: &mut [u32],
     base: &[u32],
@@ -52,44 +50,39 @@ fn conclude(
     y: usize,
     z: usize,
     k: usize,
-) -> Conclusion
+) -> Result<(usize, Progress), Refusal>
     requires { RuleReady forms.old at.state.props base.now b x y z × (at.tokens + 5 ≤ length tokens.old) × (length tokens.old ≤ 16384) × (n ≤ 3) × (r ≤ 15) }
     ensures { Inferred at b r n x y z k forms.old forms.new base.now tokens.old tokens.new result }
 {
-    let st = at.state;
-    let remaining = st.remaining;
-    match rules::apply(forms, st.props, base, b, r, x, y, z) {
-        Applied::Given(p, size) => {
-            let m = tokens::rule(tokens, at.tokens, r, n, x, y, z);
-            Conclusion::Concluded(
-                p,
-                Progress {
-                    state: State {
-                        props: size,
-                        bindings: st.bindings,
-                        remaining: remaining,
-                    },
-                    tokens: m,
-                },
-            )
-        }
-        Applied::Misshapen => Conclusion::Refused(refusal::WRONG_SHAPES, k),
-        Applied::Missing => Conclusion::Refused(refusal::PREMISE_MISSING, k),
-    }
+    let props = at.state.props;
+    let made = rules::apply(forms, props, base, b, r, x, y, z).map_err(|why| Refusal(why, k))?;
+    let state = State {
+        props: made.size,
+        ..at.state
+    };
+    let m = tokens::rule(tokens, at.tokens, r, n, x, y, z);
+    Ok((made.at, Progress { state, tokens: m }))
 }
 
 // So many arguments read off the chain at e, the last first, before x and y and z; all must be propositions.
-fn gather(binds: &[u32], e: usize, n: usize, x: usize, y: usize, z: usize) -> Taken
+#[tactic(auto, unfolding(crate::specs::Machine::taken_at, crate::specs::Machine::taken_by, crate::specs::Machine::Long))]
+fn gather(
+    binds: &[u32],
+    e: usize,
+    n: usize,
+    x: usize,
+    y: usize,
+    z: usize,
+) -> Option<(usize, usize, usize)>
     requires { Long binds.now e n }
     ensures { result ≡ taken_at binds.now e n x y z }
 {
     if n == 0 {
-        return Taken::Props(x, y, z);
+        return Some((x, y, z));
     }
     let last = bindings::load(binds, e - 1);
-    let value = last.value;
-    let Value::Prop(p) = value else {
-        return Taken::Other;
+    let Value::Prop(p) = last.value else {
+        return None;
     };
     gather(binds, last.next, n - 1, p, x, y)
 }

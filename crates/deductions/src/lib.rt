@@ -14,8 +14,8 @@ ghost use Rattle.deductions.specs.Asked.{In, Ready};
 ghost use Rattle.deductions.specs.Meets.{Deduced, Stepped, Fetched};
 
 use bindings::Value;
-use expressions::{Outcome, State};
-use language::{Remaining, refusal};
+use expressions::State;
+use language::{Refusal, Remaining, Why};
 use records::{phrase_kind, rows};
 
 mod block;
@@ -40,42 +40,7 @@ pub struct Site {
     pub depth: usize,
 }
 
-// The conclusion's number and how far the run is, or a refusal's number and place.
-#[derive(Drop)]
-pub enum Conclusion {
-    Concluded(usize, Progress),
-    Refused(usize, usize),
-}
-
-// The number of a lemma's conclusion; none where an expression has run.
-#[derive(Drop)]
-enum Lemma {
-    Of(usize),
-    None,
-}
-
-// The value of a phrase of either class, its lemma and how far the run is, or a refusal's number and place.
-#[derive(Drop)]
-enum Operand {
-    Got(Value, Lemma, Progress),
-    Lacking(usize, usize),
-}
-
-// Where the chain of arguments starts, the base's count with their lemmas and how far the run is, or a refusal's number and place.
-#[derive(Drop)]
-enum Listing {
-    Pushed(usize, usize, Progress),
-    Stopped(usize, usize),
-}
-
-// A rule's arguments by number, 0 where there is none; or that one is no proposition.
-#[derive(Drop)]
-enum Taken {
-    Props(usize, usize, usize),
-    Other,
-}
-
-// The deduction k.
+// The deduction k: its conclusion's number and how far the run is; or the refusal.
 #[cycle(deduction)]
 pub fn deduce(
     forms: &mut [u32],
@@ -87,25 +52,24 @@ pub fn deduce(
     at: Progress,
     site: Site,
     k: usize,
-) -> Conclusion
+) -> Result<(usize, Progress), Refusal>
     requires { Ready (In k) (shared phrases.now patterns.now) (mk forms.old binds.old base.old tokens.old at) site.env site.base 0 0 0 0 × (16 ≤ kind phrases.now k) }
     ensures { Deduced (shared phrases.now patterns.now) site.depth site.env site.base k (mk forms.old binds.old base.old tokens.old at) (out_of forms.new binds.new base.new tokens.new result) }
 {
-    let st = at.state;
-    let remaining = st.remaining;
-    if remaining.0 == 0 {
-        return Conclusion::Refused(refusal::BUDGET_SPENT, k);
+    if at.state.remaining.0 == 0 {
+        return Err(Refusal(Why::BudgetSpent, k));
     }
     if site.depth == 0 {
-        return Conclusion::Refused(refusal::TOO_DEEP, k);
+        return Err(Refusal(Why::TooDeep, k));
     }
-    let at1 = begin(at);
-    let there = Site {
-        base: site.base,
-        env: site.env,
+    let begun = begin(at);
+    let inside = Site {
         depth: site.depth - 1,
+        ..site
     };
-    step(forms, binds, base, tokens, phrases, patterns, at1, there, k)
+    step(
+        forms, binds, base, tokens, phrases, patterns, begun, inside, k,
+    )
 }
 
 // One evaluation more begun: what is left of the budget is one less.
@@ -113,16 +77,12 @@ fn begin(at: Progress) -> Progress
     requires { 0 < at.state.remaining.0 }
     ensures { result ≡ begun at }
 {
-    let st = at.state;
-    let remaining = st.remaining;
-    let after = Remaining(remaining.0 - 1);
     Progress {
         state: State {
-            props: st.props,
-            bindings: st.bindings,
-            remaining: after,
+            remaining: Remaining(at.state.remaining.0 - 1),
+            ..at.state
         },
-        tokens: at.tokens,
+        ..at
     }
 }
 
@@ -138,33 +98,35 @@ fn step(
     at: Progress,
     site: Site,
     k: usize,
-) -> Conclusion
+) -> Result<(usize, Progress), Refusal>
     requires { Ready (In k) (shared phrases.now patterns.now) (mk forms.old binds.old base.old tokens.old at) site.env site.base 4 4 11 1 × (16 ≤ kind phrases.now k) }
     ensures { Stepped (shared phrases.now patterns.now) site.depth site.env site.base k (mk forms.old binds.old base.old tokens.old at) (out_of forms.new binds.new base.new tokens.new result) }
 {
-    let kind = words::at(phrases, rows::PHRASE * k);
-    if kind == phrase_kind::METHOD_CALL {
-        return call::call(forms, binds, base, tokens, phrases, patterns, at, site, k);
+    match words::at(phrases, rows::PHRASE * k) {
+        phrase_kind::METHOD_CALL => {
+            call::call(forms, binds, base, tokens, phrases, patterns, at, site, k)
+        }
+        phrase_kind::ASSUME => {
+            given::assume(forms, binds, base, tokens, phrases, patterns, at, site, k)
+        }
+        phrase_kind::SUPPOSE => {
+            given::suppose(forms, binds, base, tokens, phrases, patterns, at, site, k)
+        }
+        phrase_kind::DLET => {
+            block::bind(forms, binds, base, tokens, phrases, patterns, at, site, k)
+        }
+        phrase_kind::BY => {
+            block::announced(forms, binds, base, tokens, phrases, patterns, at, site, k)
+        }
+        phrase_kind::BLOCK => {
+            block::block(forms, binds, base, tokens, phrases, patterns, at, site, k)
+        }
+        _ => dmatch::matched(forms, binds, base, tokens, phrases, patterns, at, site, k),
     }
-    if kind == phrase_kind::ASSUME {
-        return given::assume(forms, binds, base, tokens, phrases, patterns, at, site, k);
-    }
-    if kind == phrase_kind::SUPPOSE {
-        return given::suppose(forms, binds, base, tokens, phrases, patterns, at, site, k);
-    }
-    if kind == phrase_kind::DLET {
-        return block::bind(forms, binds, base, tokens, phrases, patterns, at, site, k);
-    }
-    if kind == phrase_kind::BY {
-        return block::announced(forms, binds, base, tokens, phrases, patterns, at, site, k);
-    }
-    if kind == phrase_kind::BLOCK {
-        return block::block(forms, binds, base, tokens, phrases, patterns, at, site, k);
-    }
-    dmatch::matched(forms, binds, base, tokens, phrases, patterns, at, site, k)
 }
 
-// The phrase k, of either class. A deduction's tokens are written after a 1, as something follows them.
+// The phrase k, of either class: its value, its lemma's number where it is a deduction, and how far the run is. A deduction's tokens are
+// written after a 1, as something follows them.
 #[cycle(deduction)]
 fn either(
     forms: &mut [u32],
@@ -176,22 +138,17 @@ fn either(
     at: Progress,
     site: Site,
     k: usize,
-) -> Operand
+) -> Result<(Value, Option<usize>, Progress), Refusal>
     requires { Ready (In k) (shared phrases.now patterns.now) (mk forms.old binds.old base.old tokens.old at) site.env site.base 0 0 1 0 }
     ensures { Fetched (shared phrases.now patterns.now) site.depth site.env site.base k (mk forms.old binds.old base.old tokens.old at) (operand_of forms.new binds.new base.new tokens.new result) }
 {
     if words::at(phrases, rows::PHRASE * k) < phrase_kind::METHOD_CALL {
-        let st = at.state;
-        let env = site.env;
-        let depth = site.depth;
-        return match expressions::evaluate(forms, binds, phrases, patterns, st, env, k, depth) {
-            Outcome::Done(v, st1) => operands::plainly(v, st1, at.tokens),
-            Outcome::Refused(x, y) => Operand::Lacking(x, y),
-        };
+        let (v, state) = expressions::evaluate(
+            forms, binds, phrases, patterns, at.state, site.env, k, site.depth,
+        )?;
+        return Ok((v, None, Progress { state, ..at }));
     }
     let at1 = operands::sequel(tokens, at);
-    match deduce(forms, binds, base, tokens, phrases, patterns, at1, site, k) {
-        Conclusion::Concluded(p, at2) => Operand::Got(Value::Prop(p), Lemma::Of(p), at2),
-        Conclusion::Refused(x, y) => Operand::Lacking(x, y),
-    }
+    let (p, at2) = deduce(forms, binds, base, tokens, phrases, patterns, at1, site, k)?;
+    Ok((Value::Prop(p), Some(p), at2))
 }

@@ -7,4 +7,5 @@ pub language : Language
 unfolding Once
 language = record {
   arguments = λ κs a z z' ws ws' x y. (x ∙ sym y, refl);
+  refusal_why_number = λ κs a z z' ws ws' x y. (x ∙ sym y, refl);
 }

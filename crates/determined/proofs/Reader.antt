@@ -3,7 +3,8 @@ use mathlib.Core.Path.{◌≡◌, refl, sym, ◌∙◌}
 use Prim.Native.Nat.{ℕ}
 use mathlib.Core.List.{List}
 use Rattle.numbers.proofs.Answers.{gotten_once}
-use Rattle.records.specs.declared.Ended.{Ended}
+use Rattle.std.specs.Prelude.{Result}
+use Rattle.language.specs.declared.refusal.Refusal.{Refusal}
 use Rattle.records.specs.Reading.{Kept}
 use Rattle.records.proofs.Once.{ends_once}
 use Rattle.reader.specs.declared.parts.Listed.{Listed}
@@ -13,7 +14,7 @@ use Rattle.determined.specs.Once.{Once}
 use Rattle.determined.specs.Reader.{Reader}
 use Rattle.determined.proofs.Left.{pair}
 
-listed_by : (c c' : ℕ) (e e' : Ended) → c ≡ c' → e ≡ e' → ◌≡◌ {A = Listed} (record { count = c; ended = e }) (record { count = c'; ended = e' })
+listed_by : (c c' : ℕ) (e e' : Result ℕ Refusal) → c ≡ c' → e ≡ e' → ◌≡◌ {A = Listed} (record { count = c; ended = e }) (record { count = c'; ended = e' })
 listed_by c c' e e' x y = rw (x, y)
 
 -- rows in front of a buffer

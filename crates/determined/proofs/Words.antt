@@ -10,6 +10,5 @@ words = record {
   at = λ κs a z z' ws ws' x y. (x ∙ sym y, refl);
   put = λ κs a z z' ws ws' x y. (refl, pair (x ∙ sym y) refl);
   wipe = λ κs a z z' ws ws' x y. (refl, pair (x ∙ sym y) refl);
-  put2 = λ κs a z z' ws ws' x y. (refl, pair (x ∙ sym y) refl);
-  put4 = λ κs a z z' ws ws' x y. (refl, pair (x ∙ sym y) refl);
+  put_all = λ κs a z z' ws ws' x y. (refl, pair (x ∙ sym y) refl);
 }

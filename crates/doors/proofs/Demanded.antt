@@ -14,9 +14,12 @@ use Rattle.language.specs.Run.{Derived}
 use Rattle.language.specs.Certificate.{certificate}
 use Rattle.language.specs.Answer.{Answer, accepted, refused, answer}
 use Rattle.language.specs.Check.{certificate_at, verdict}
-use Rattle.language.specs.Doors.{evaluated_numbers, evaluation_lengths, enough, wiped, fronted, Evaluation, finished, evaluation, checking}
-use Rattle.language.specs.declared.Evaluated.{Evaluated}
-use Rattle.language.specs.declared.Evaluated.TheVariants.{Accepted, Refused}
+use Rattle.language.specs.Doors.{accepted_with, evaluated_numbers, evaluation_lengths, enough, wiped, fronted, Evaluation, finished, evaluation, checking}
+use Rattle.std.specs.Prelude.{Result, Ok, Err}
+use Rattle.language.specs.Numbered.{number_of}
+use Rattle.theorems.proofs.Refusals.{refusal_once}
+use Rattle.language.specs.declared.refusal.Refusal.{Refusal}
+use Rattle.language.specs.declared.Accepted.{Accepted}
 use Rattle.theorems.proofs.Lists.{clash}
 use Rattle.theorems.specs.Demands.{SheetDerives, Concludes, AcceptsExactly, ChecksExactly}
 use Rattle.theorems.specs.Growth.{AnswersStand}
@@ -36,20 +39,23 @@ use Rattle.checker.proofs.Demanded.{check_exactly}
 use Rattle.doors.specs.Demands.{EvaluateOnce, EvaluateRefuses, EvaluateScratch, EvaluateExactly, EvaluateRoom, EvaluateStands, CertificateStands, EvaluateFront, CheckFront}
 
 -- answers with the same numbers
-pub accepted_same : {a a' b b' c c' : ℕ} → a ≡ a' → b ≡ b' → c ≡ c' → Accepted a (record { 0 = b }) (record { 0 = c }) ≡ Accepted a' (record { 0 = b' }) (record { 0 = c' })
+pub accepted_same : {a a' b b' c c' : ℕ} → a ≡ a' → b ≡ b' → c ≡ c' → accepted_with a (record { 0 = b }) (record { 0 = c }) ≡ accepted_with a' (record { 0 = b' }) (record { 0 = c' })
 accepted_same x y z = rw (x, y, z)
 
 -- an answer is known by its numbers
-numbers_once : (r r' : Evaluated) → evaluated_numbers r ≡ evaluated_numbers r' → r ≡ r'
+numbers_once : (r r' : Result Accepted Refusal) → evaluated_numbers r ≡ evaluated_numbers r' → r ≡ r'
 unfolding evaluated_numbers
-numbers_once (Accepted n w i) (Accepted n' w' i') e =
-    let x : n ≡ n' = cc in
-    let y : w.0 ≡ w'.0 = cc in
-    let z : i.0 ≡ i'.0 = cc in
+numbers_once (Ok a) (Ok a') e =
+    let x : a.length ≡ a'.length = cc in
+    let y : a.work.0 ≡ a'.work.0 = cc in
+    let z : a.inferences.0 ≡ a'.inferences.0 = cc in
     accepted_same x y z
-numbers_once (Accepted n w i) (Refused n' p') e = absurd (clash cc)
-numbers_once (Refused n p) (Accepted n' w' i') e = absurd (clash cc)
-numbers_once (Refused n p) (Refused n' p') e = let x : n ≡ n' = cc in let y : p ≡ p' = cc in rw (x, y)
+numbers_once (Ok a) (Err r') e = absurd (clash cc)
+numbers_once (Err r) (Ok a') e = absurd (clash cc)
+numbers_once (Err r) (Err r') e =
+    let x : number_of r.0 ≡ number_of r'.0 = cc in
+    let y : r.1 ≡ r'.1 = cc in
+    ap Err (refusal_once r r' x y)
 
 pub evaluate_once : EvaluateOnce
 unfolding EvaluateOnce
@@ -101,8 +107,8 @@ module _ (a : Answer) (out₀ : List ℕ) (bs₀ : List (List ℕ)) where
 
 pub evaluate_refuses : EvaluateRefuses
 unfolding EvaluateRefuses evaluation evaluated_numbers
-evaluate_refuses s budget n place out₀ out bs₀ bs x =
-    refuses_by (answer s budget (length out₀)) out₀ bs₀ (leb budget 1024) (enough evaluation_lengths bs₀) n place out bs x.answers
+evaluate_refuses s budget r out₀ out bs₀ bs x =
+    refuses_by (answer s budget (length out₀)) out₀ bs₀ (leb budget 1024) (enough evaluation_lengths bs₀) (number_of r.0) r.1 out bs x.answers
 
 pub evaluate_scratch : EvaluateScratch
 unfolding EvaluateScratch evaluation
@@ -110,7 +116,7 @@ evaluate_scratch s budget r out₀ out bs₀ bs x =
     ap (λ (v : Evaluation). v.scratch) x.answers ∙ scratch_by (answer s budget (length out₀)) out₀ bs₀ (leb budget 1024) (enough evaluation_lengths bs₀)
 
 -- a run of `evaluate` with a budget within its limit and scratch long enough
-module _ (s : List ℕ) (budget : ℕ) (r : Evaluated) (out₀ out : List ℕ) (bs₀ bs : List (List ℕ)) (x : Evaluates s budget r out₀ out bs₀ bs)
+module _ (s : List ℕ) (budget : ℕ) (r : Result Accepted Refusal) (out₀ out : List ℕ) (bs₀ bs : List (List ℕ)) (x : Evaluates s budget r out₀ out bs₀ bs)
     (within : budget ≤ 1024) (long : enough evaluation_lengths bs₀ ≡ true) where
   is_finished : ◌≡◌ {A = Evaluation} (record { numbers = evaluated_numbers r; output = out; scratch = bs }) (finished (answer s budget (length out₀)) out₀ bs₀)
   is_finished = x.answers ∙ door_finished s budget out₀ bs₀ within long

@@ -11,13 +11,14 @@ use Rattle.language.specs.Values.{empty}
 use Rattle.language.specs.Run.{Derived, deduce}
 use Rattle.language.specs.Derives.{Derives}
 use Rattle.language.specs.Certificate.{certificate}
-use Rattle.language.specs.Doors.{evaluated_numbers, evaluation_lengths, wiped, fronted, Evaluation, finished}
+use Rattle.language.specs.Doors.{accepted_with, evaluated_numbers, evaluation_lengths, wiped, fronted, Evaluation, finished}
 use Rattle.language.specs.Answer.{answer, accepted, refused}
 use Rattle.language.specs.Cases.{c1, c1_certificate, c8}
 use Rattle.language.specs.declared.Work.{Work}
 use Rattle.language.specs.declared.Inferences.{Inferences}
-use Rattle.language.specs.declared.Evaluated.{Evaluated}
-use Rattle.language.specs.declared.Evaluated.TheVariants.{Accepted, Refused}
+use Rattle.std.specs.Prelude.{Result, Ok, Err}
+use Rattle.language.specs.declared.refusal.Refusal.{Refusal}
+use Rattle.language.specs.declared.Accepted.{Accepted}
 use Rattle.theorems.proofs.Lists.{clash}
 use Rattle.theorems.specs.Demands.{DeducesExactly, AcceptsExactly}
 use Rattle.theorems.proofs.ShutOut.{sheet_of, S₁, c1_reads, first, first_derived}
@@ -30,16 +31,16 @@ use Rattle.doors.proofs.Ones.{ones, ones_enough, wiped_not}
 use Rattle.doors.specs.Wrong.{Evaluator, HasEvaluate, MeetsDemand2, RefusesEverything, EmitsTrueIntro, WritesNothing, RunsFirstStep, SpendsTheBudget, InfersItsWork, LeavesEvaluationScratch, BelievesAnnounced, WritesWhatFits, AcceptsWhatIsThere}
 
 -- an answer by its numbers
-accepted_by : (r : Evaluated) (n w i : ℕ) → evaluated_numbers r ≡ 0 ∷ (n ∷ (w ∷ (i ∷ []))) → r ≡ Accepted n (record { 0 = w }) (record { 0 = i })
+accepted_by : (r : Result Accepted Refusal) (n w i : ℕ) → evaluated_numbers r ≡ 0 ∷ (n ∷ (w ∷ (i ∷ []))) → r ≡ accepted_with n (record { 0 = w }) (record { 0 = i })
 unfolding evaluated_numbers
-accepted_by (Accepted m v j) n w i e =
-    let x : m ≡ n = cc in
-    let y : v.0 ≡ w = cc in
-    let z : j.0 ≡ i = cc in
+accepted_by (Ok a) n w i e =
+    let x : a.length ≡ n = cc in
+    let y : a.work.0 ≡ w = cc in
+    let z : a.inferences.0 ≡ i = cc in
     accepted_same x y z
-accepted_by (Refused m p) n w i e = absurd (clash cc)
+accepted_by (Err r) n w i e = absurd (clash cc)
 
-refused_by : (r : Evaluated) (n p m : ℕ) (w : Work) (i : Inferences) → evaluated_numbers r ≡ n ∷ (p ∷ []) → r ≡ Accepted m w i → ⊥
+refused_by : (r : Result Accepted Refusal) (n p m : ℕ) (w : Work) (i : Inferences) → evaluated_numbers r ≡ n ∷ (p ∷ []) → r ≡ accepted_with m w i → ⊥
 unfolding evaluated_numbers
 refused_by r n p m w i e f = let z = ap evaluated_numbers f in clash cc
 
@@ -127,12 +128,12 @@ module _ (E : Evaluator) (has : HasEvaluate E) where
   leaving_scratch_shut_out h =
       wiped_not 9219 (4610 ∷ (640 ∷ (6144 ∷ (1088 ∷ (16384 ∷ (11264 ∷ [])))))) (sym c1_scratch ∙ h c1 12 room (ones evaluation_lengths))
 
-  c1_accepted : (E c1 12 room (ones evaluation_lengths)).answer ≡ Accepted 24 (record { 0 = 11 }) (record { 0 = 3 })
+  c1_accepted : (E c1 12 room (ones evaluation_lengths)).answer ≡ accepted_with 24 (record { 0 = 11 }) (record { 0 = 3 })
   c1_accepted = accepted_by (E c1 12 room (ones evaluation_lengths)).answer 24 11 3 c1_numbers
 
   pub refusing_shut_out : RefusesEverything E → ⊥
   unfolding RefusesEverything
-  refusing_shut_out h = let (n, p, e) = h c1 12 room (ones evaluation_lengths) in let f = c1_accepted in clash cc
+  refusing_shut_out h = let (r, e) = h c1 12 room (ones evaluation_lengths) in let f = c1_accepted in clash cc
 
   pub true_intro_shut_out : EmitsTrueIntro E → ⊥
   unfolding EmitsTrueIntro fronted

@@ -8,11 +8,12 @@ use lib.ListN.{get_or, replicate}
 use Rattle.language.specs.Numbers.{got, pick}
 use Rattle.language.specs.Read.{sheet}
 use Rattle.language.specs.Check.{Verdict, stands, falls, verdict}
-use Rattle.language.specs.Doors.{checked_numbers, verdict_numbers, check_lengths, enough, wiped, Checking, checking}
+use Rattle.language.specs.Doors.{stands_with, checked_numbers, verdict_numbers, check_lengths, enough, wiped, Checking, checking}
 use Rattle.language.specs.Cases.{◌∶◌, c1, c5}
 use Rattle.language.specs.declared.Inferences.{Inferences}
-use Rattle.language.specs.declared.Checked.{Checked}
-use Rattle.language.specs.declared.Checked.TheVariants.{Stands, Falls}
+use Rattle.std.specs.Prelude.{Result, Ok, Err}
+use Rattle.language.specs.declared.refusal.Refusal.{Refusal}
+use Rattle.language.specs.declared.Stands.{Stands}
 use Rattle.theorems.proofs.Lists.{clash}
 use Rattle.theorems.proofs.ShutOut.{sheet_of, c1_reads}
 use Rattle.checker.specs.Verdicts.{scratch}
@@ -45,15 +46,15 @@ unfolding sheet
 c5_reads = refl
 
 -- an answer by its numbers
-stands_by : (r : Checked) (k i : ℕ) → checked_numbers r ≡ 0 ∷ (k ∷ (i ∷ [])) → r ≡ Stands k (record { 0 = i })
+stands_by : (r : Result Stands Refusal) (k i : ℕ) → checked_numbers r ≡ 0 ∷ (k ∷ (i ∷ [])) → r ≡ stands_with k (record { 0 = i })
 unfolding checked_numbers
-stands_by (Stands m j) k i e = let x : m ≡ k = cc in let y : j.0 ≡ i = cc in alike x y
+stands_by (Ok c) k i e = let x : c.conclusion ≡ k = cc in let y : c.inferences.0 ≡ i = cc in alike x y
   where
-    alike : {a a' b b' : ℕ} → a ≡ a' → b ≡ b' → Stands a (record { 0 = b }) ≡ Stands a' (record { 0 = b' })
+    alike : {a a' b b' : ℕ} → a ≡ a' → b ≡ b' → stands_with a (record { 0 = b }) ≡ stands_with a' (record { 0 = b' })
     alike x y = rw (x, y)
-stands_by (Falls m p) k i e = absurd (clash cc)
+stands_by (Err r) k i e = absurd (clash cc)
 
-falls_not : (r : Checked) (n p k : ℕ) (i : Inferences) → checked_numbers r ≡ n ∷ (p ∷ []) → r ≡ Stands k i → ⊥
+falls_not : (r : Result Stands Refusal) (n p k : ℕ) (i : Inferences) → checked_numbers r ≡ n ∷ (p ∷ []) → r ≡ stands_with k i → ⊥
 unfolding checked_numbers
 falls_not r n p k i e f = let z = ap checked_numbers f in clash cc
 
@@ -84,7 +85,7 @@ module _ (K : Checker) (has : HasCheck K) where
   numbers : (s bytes : List ℕ) (v : Verdict) → verdict s bytes ≡ v → checked_numbers (checked s bytes).answer ≡ verdict_numbers v
   numbers s bytes v e = ap (λ (c : Checking). c.numbers) (whole s bytes v e)
 
-  c1_stands : (checked c1 (before ++ (3 ∷ []))).answer ≡ Stands 3 (record { 0 = 3 })
+  c1_stands : (checked c1 (before ++ (3 ∷ []))).answer ≡ stands_with 3 (record { 0 = 3 })
   unfolding verdict_numbers
   c1_stands = stands_by (checked c1 (before ++ (3 ∷ []))).answer 3 3 (numbers c1 (before ++ (3 ∷ [])) (stands 3 3) stands_c1)
 
@@ -97,7 +98,7 @@ module _ (K : Checker) (has : HasCheck K) where
   pub refusing_all_shut_out : RefusesAll K → ⊥
   unfolding RefusesAll
   refusing_all_shut_out h =
-      let (n, p, e) = h c1 (before ++ (3 ∷ [])) (replicate 4608 1) (replicate 12290 1) (replicate 640 1) (replicate 6144 1) (replicate 576 1) in
+      let (r, e) = h c1 (before ++ (3 ∷ [])) (replicate 4608 1) (replicate 12290 1) (replicate 640 1) (replicate 6144 1) (replicate 576 1) in
       let f = sym e ∙ c1_stands in
       clash cc
 

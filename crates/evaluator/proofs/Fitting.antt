@@ -1,4 +1,5 @@
 -- An accepted certificate is no longer than the output.
+use Rattle.std.specs.Prelude.{Result, Ok}
 use Prim.Native.Nat.{ℕ, ◌-◌, ◌≤◌}
 use native.Mathlib.Omega.{arith}
 use mathlib.Core.Path.{◌≡◌, refl, ap, subst}
@@ -17,10 +18,8 @@ use Rattle.language.specs.Run.{Derived, deduce}
 use Rattle.language.specs.Certificate.{certificate}
 use Rattle.language.specs.Answer.{Answer, accepted, refused, written, ended, started, answer}
 use Rattle.language.specs.Doors.{evaluation_lengths, evaluated_numbers, enough, Evaluation, finished, evaluation}
-use Rattle.language.specs.declared.Work.{Work}
-use Rattle.language.specs.declared.Inferences.{Inferences}
-use Rattle.language.specs.declared.Evaluated.{Evaluated}
-use Rattle.language.specs.declared.Evaluated.TheVariants.{Accepted}
+use Rattle.language.specs.declared.Accepted.{Accepted}
+use Rattle.language.specs.declared.refusal.Refusal.{Refusal}
 use Rattle.theorems.proofs.Lists.{clash}
 use Rattle.evaluator.specs.Door.{Evaluates}
 
@@ -75,8 +74,8 @@ fits_by room (accepted bytes w' i') out₀ o bs₀ bs h true true n w i e =
     let many : n ≡ length bytes = cc in
     omega arith
 
-pub accepted_fits : (s : List ℕ) (budget n : ℕ) (w : Work) (i : Inferences) (r : Evaluated) (out₀ o : List ℕ) (bs₀ bs : List (List ℕ)) → Evaluates s budget r out₀ o bs₀ bs → r ≡ Accepted n w i → n ≤ length out₀
+pub accepted_fits : (s : List ℕ) (budget : ℕ) (a : Accepted) (r : Result Accepted Refusal) (out₀ o : List ℕ) (bs₀ bs : List (List ℕ)) → Evaluates s budget r out₀ o bs₀ bs → r ≡ Ok a → a.length ≤ length out₀
 unfolding evaluation evaluated_numbers
-accepted_fits s budget n w i r out₀ o bs₀ bs x e =
-    let y = subst (λ (z : Evaluated). Evaluates s budget z out₀ o bs₀ bs) e x in
-    fits_by (length out₀) (answer s budget (length out₀)) out₀ o bs₀ bs (answer_fits s budget (length out₀)) (leb budget 1024) (enough evaluation_lengths bs₀) n w.0 i.0 y.answers
+accepted_fits s budget a r out₀ o bs₀ bs x e =
+    let y = subst (λ (z : Result Accepted Refusal). Evaluates s budget z out₀ o bs₀ bs) e x in
+    fits_by (length out₀) (answer s budget (length out₀)) out₀ o bs₀ bs (answer_fits s budget (length out₀)) (leb budget 1024) (enough evaluation_lengths bs₀) a.length a.work.0 a.inferences.0 y.answers

@@ -1,4 +1,5 @@
 -- What reading a sheet leaves is what running its root asks; and the answer for a sheet is its run's, or the reading's refusal.
+use Rattle.std.specs.Prelude.{Result, Ok, Err}
 use Prim.Native.Nat.{ℕ, ◌+◌, ◌*◌, ◌≤◌, ◌<◌}
 use native.Mathlib.Omega.{arith}
 use mathlib.Core.Path.{◌≡◌, refl, sym, ap, ap₂, subst, ◌∙◌}
@@ -14,8 +15,9 @@ use Rattle.language.specs.Values.{empty}
 use Rattle.language.specs.Run.{deduce}
 use Rattle.language.specs.Answer.{Answer, answer, started, ended}
 use Rattle.language.specs.Doors.{evaluated_numbers, finished}
-use Rattle.language.specs.declared.Evaluated.{Evaluated}
-use Rattle.language.specs.declared.Evaluated.TheVariants.{Refused}
+use Rattle.language.specs.Numbered.{number_of, numbered}
+use Rattle.language.specs.declared.Accepted.{Accepted}
+use Rattle.language.specs.declared.refusal.Refusal.{Refusal}
 use Rattle.theorems.proofs.Lists.{all_at}
 use Rattle.words.specs.Front.{front}
 use Rattle.words.proofs.Fronts.{take_front, get_d_front}
@@ -23,8 +25,6 @@ use Rattle.forms.specs.Table.{tree}
 use Rattle.records.specs.Rows.{cell}
 use Rattle.records.specs.Reading.{Tables, reading}
 use Rattle.reader.specs.declared.Counts.{Counts}
-use Rattle.reader.specs.declared.SheetRead.{SheetRead}
-use Rattle.reader.specs.declared.SheetRead.TheVariants as sheet_read
 use Rattle.reader.specs.Laid.{Laid}
 use Rattle.reader.specs.Stands.{Stands, ReadAs, read, unread}
 use Rattle.reader.specs.Buffers.{Holds}
@@ -60,22 +60,22 @@ based_read S T R bs₀ bs b e many =
       alike = λ p. sym (stack_alike R.trees bs S.base trees b (omega arith) p ∙ ap (λ (xs : List Form). member p xs) (take_all b S.base (omega arith)));
     }
 
-module _ (s : List ℕ) (ns₀ fs₀ ps₀ hs₀ bs₀ ns fs ps hs bs : List ℕ) (r : SheetRead) (L : Laid s r ns₀ fs₀ ps₀ hs₀ bs₀ ns fs ps hs bs) (budget : ℕ) (within : budget ≤ 1024) where
+module _ (s : List ℕ) (ns₀ fs₀ ps₀ hs₀ bs₀ ns fs ps hs bs : List ℕ) (r : Result Counts Refusal) (L : Laid s r ns₀ fs₀ ps₀ hs₀ bs₀ ns fs ps hs bs) (budget : ℕ) (within : budget ≤ 1024) where
   -- the answer for a sheet that is refused
-  pub sheet_stops : (n place : ℕ) → r ≡ sheet_read.Refused n place → (out₀ : List ℕ) → Gives (answer s budget (length out₀)) out₀ (Refused n place) out₀
+  pub sheet_stops : (w : Refusal) → r ≡ Err w → (out₀ : List ℕ) → Gives (answer s budget (length out₀)) out₀ (Err w) out₀
   unfolding answer pick started finished evaluated_numbers
-  sheet_stops n place e out₀ = go (sheet s) refl (reading_sheet s)
+  sheet_stops w e out₀ = go (sheet s) refl (reading_sheet s)
     where
-      go : (g : Got Sheet) → sheet s ≡ g → ReadAs (reading s) g → Gives (answer s budget (length out₀)) out₀ (Refused n place) out₀
-      go g z (read {S} {end} x st) = absurd (refused_not_read (reading s).tables (reading s).root n place S.root end (sym L.answered ∙ e) x)
+      go : (g : Got Sheet) → sheet s ≡ g → ReadAs (reading s) g → Gives (answer s budget (length out₀)) out₀ (Err w) out₀
+      go g z (read {S} {end} x st) = absurd (refused_not_read (reading s).tables (reading s).root (number_of w.0) w.1 S.root end (sym L.answered ∙ ap numbered e) x)
       go g z (unread {n = n'} {p = p'} x) =
-          let (a, b) = refused_same (reading s).tables (reading s).root n place n' p' (sym L.answered ∙ e) x in
+          let (a, b) = refused_same (reading s).tables (reading s).root (number_of w.0) w.1 n' p' (sym L.answered ∙ ap numbered e) x in
           record { numbers = rw (le-leb budget 1024 within, z, a, b); output = rw (le-leb budget 1024 within, z) }
 
-  module _ (binds tokens : List ℕ) (c : Counts) (e : r ≡ sheet_read.Read c) (f : length fs ≡ 4610) (v : length binds ≡ 16384) (t : length tokens ≡ 11264) (b : length bs ≡ 1088)
+  module _ (binds tokens : List ℕ) (c : Counts) (e : r ≡ Ok c) (f : length fs ≡ 4610) (v : length binds ≡ 16384) (t : length tokens ≡ 11264) (b : length bs ≡ 1088)
       (h : length hs ≡ 6144) (p : length ps ≡ 640) (hs-kept : length hs ≡ length hs₀) (ps-kept : length ps ≡ length ps₀) where
     O : Opened s c
-    O = opened s c (sym L.answered ∙ e)
+    O = opened s c (sym L.answered ∙ ap numbered e)
 
     abbrev T : Tables
     T = (reading s).tables
@@ -135,7 +135,7 @@ module _ (s : List ℕ) (ns₀ fs₀ ps₀ hs₀ bs₀ ns fs ps hs bs : List ℕ
         }
 
     -- and the run's answer is the sheet's
-    pub sheet_goes_on : (out₀ out : List ℕ) (z : Evaluated) → Runs (shared hs ps) m c.base c.root out₀ z out → Gives (answer s budget (length out₀)) out₀ z out
+    pub sheet_goes_on : (out₀ out : List ℕ) (z : Result Accepted Refusal) → Runs (shared hs ps) m c.base c.root out₀ z out → Gives (answer s budget (length out₀)) out₀ z out
     sheet_goes_on out₀ out z G =
         subst (λ (a : Answer). Gives a out₀ z out) (sym (sheet_answer s O.sheet_is O.end budget (length out₀) c.root O.is O.root_is within))
         (G.gives (text O.sheet_is T) O.stands.trees O.sheet_is.base setting inside)

@@ -1,4 +1,5 @@
 -- The door's seven buffers, and what it answers: 1, 2, or what was found with their fronts lent.
+use Rattle.std.specs.Prelude.{Result, Err}
 use Prim.Native.Nat.{ℕ, ◌≤◌, ◌<◌}
 use mathlib.Core.Path.{◌≡◌, refl, sym, ◌∙◌}
 use mathlib.Core.List.{List, [], ◌++◌, map}
@@ -8,18 +9,14 @@ use borrow.Author.Tests.{le-leb, lt-leb}
 use Rattle.language.specs.Numbers.{pick}
 use Rattle.language.specs.Answer.{Answer, accepted, refused, answer}
 use Rattle.language.specs.Doors.{evaluated_numbers, enough, wiped, evaluation_lengths, finished, evaluation}
-use Rattle.language.specs.declared.Evaluated.{Evaluated}
-use Rattle.language.specs.declared.Evaluated.TheVariants.{Refused}
-use Rattle.theorems.proofs.Buffers.{enough_more, enough_none, fronts, fronts_long, long_more, over, over_wiped, wiped_more, wiped_none}
+use Rattle.language.specs.declared.Accepted.{Accepted}
+use Rattle.language.specs.declared.refusal.Refusal.{Refusal}
+use Rattle.language.specs.declared.refusal.Why.TheVariants.{BudgetOver, ScratchShort}
+use Rattle.theorems.proofs.Buffers.{fronts, fronts_long, long_more, over, over_wiped, wiped_more, wiped_none}
 use Rattle.evaluator.specs.Door.{scratch, Gives, Evaluates}
 
 -- the seven buffers of an evaluation
 module _ (a b c d e f g : List ℕ) where
-  pub seven_enough : 9220 ≤ length a → 4610 ≤ length b → 640 ≤ length c → 6144 ≤ length d → 1088 ≤ length e → 16384 ≤ length f → 11264 ≤ length g →
-      enough evaluation_lengths (scratch a b c d e f g) ≡ true
-  seven_enough la lb lc ld le lf lg =
-      enough_more _ _ _ _ la (enough_more _ _ _ _ lb (enough_more _ _ _ _ lc (enough_more _ _ _ _ ld (enough_more _ _ _ _ le (enough_more _ _ _ _ lf (enough_more _ _ _ _ lg enough_none))))))
-
   module _ (a' b' c' d' e' f' g' : List ℕ) where
     -- fronts that were lent are as long as fixed
     pub seven_fixed : enough evaluation_lengths (scratch a b c d e f g) ≡ true → length a' ≡ length (take 9220 a) → length b' ≡ length (take 4610 b) → length c' ≡ length (take 640 c) →
@@ -43,11 +40,11 @@ finished_whole (accepted bytes w i) out bs = refl
 finished_whole (refused n p) out bs = refl
 
 module _ (s : List ℕ) (budget : ℕ) (out₀ : List ℕ) (bs : List (List ℕ)) where
-  pub door_over : 1024 < budget → Evaluates s budget (Refused 1 0) out₀ out₀ bs bs
+  pub door_over : 1024 < budget → Evaluates s budget (Err (record { 0 = BudgetOver; 1 = 0 })) out₀ out₀ bs bs
   unfolding evaluated_numbers evaluation pick
   door_over h = record { answers = rw (lt-leb budget 1024 h) }
 
-  pub door_short : budget ≤ 1024 → enough evaluation_lengths bs ≡ false → Evaluates s budget (Refused 2 0) out₀ out₀ bs bs
+  pub door_short : budget ≤ 1024 → enough evaluation_lengths bs ≡ false → Evaluates s budget (Err (record { 0 = ScratchShort; 1 = 0 })) out₀ out₀ bs bs
   unfolding evaluated_numbers evaluation pick
   door_short h e = record { answers = rw (le-leb budget 1024 h, e) }
 
@@ -55,7 +52,7 @@ module _ (s : List ℕ) (budget : ℕ) (out₀ : List ℕ) (bs : List (List ℕ)
   unfolding evaluation pick
   door_finished h e = rw (le-leb budget 1024 h, e)
 
-  pub door_answers : budget ≤ 1024 → enough evaluation_lengths bs ≡ true → length bs ≡ 7 → (r : Evaluated) (out : List ℕ) (xs us : List (List ℕ)) →
+  pub door_answers : budget ≤ 1024 → enough evaluation_lengths bs ≡ true → length bs ≡ 7 → (r : Result Accepted Refusal) (out : List ℕ) (xs us : List (List ℕ)) →
       map length xs ≡ evaluation_lengths → Gives (answer s budget (length out₀)) out₀ r out → us ≡ wiped evaluation_lengths (over evaluation_lengths xs bs) →
       Evaluates s budget r out₀ out bs us
   door_answers h e seven r out xs us l G w =

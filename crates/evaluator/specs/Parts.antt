@@ -1,12 +1,13 @@
 -- The parts of an evaluation: the root's run, and its certificate.
-use Rattle.std.specs.Prelude.{ℕ, ◌-◌, ◌≤◌, List, length}
+use Rattle.std.specs.Prelude.{ℕ, ◌-◌, ◌≤◌, List, length, Result}
 use Rattle.language.specs.Form.{Form}
 use Rattle.language.specs.Plain.{inferences}
 use Rattle.language.specs.Values.{empty}
 use Rattle.language.specs.Run.{deduce}
 use Rattle.language.specs.Certificate.{certificate}
 use Rattle.language.specs.Answer.{ended, written}
-use Rattle.language.specs.declared.Evaluated.{Evaluated}
+use Rattle.language.specs.declared.Accepted.{Accepted}
+use Rattle.language.specs.declared.refusal.Refusal.{Refusal}
 use Rattle.expressions.specs.Machine.{Shared, kind, counters}
 use Rattle.expressions.specs.Asked.{Text}
 use Rattle.deductions.specs.declared.Progress.{Progress}
@@ -27,7 +28,7 @@ pub record Rooted (s : Shared) (m : M) (b k : ℕ) (listing : List ℕ) : Type 0
   pub formed : length m.forms ≤ 4610
 
 -- whatever phrases and base the state stands for, the answer is that of the definitions' run
-pub record Runs (s : Shared) (m : M) (b k : ℕ) (out₀ : List ℕ) (r : Evaluated) (out : List ℕ) : Type 0 where
+pub record Runs (s : Shared) (m : M) (b k : ℕ) (out₀ : List ℕ) (r : Result Accepted Refusal) (out : List ℕ) : Type 0 where
   pub gives : (x : Text) (fs β : List Form) → Setting x fs empty β s m 0 b → In k x →
       Gives (ended (remaining m) (length out₀) (deduce x.phrases 64 empty β k (remaining m))) out₀ r out
 
@@ -37,6 +38,6 @@ pub record Ending (forms tokens listing : List ℕ) (p : ℕ) (at : Progress) (b
   pub spent : at.state.remaining.0 ≤ budget
 
 -- the answer is the certificate's, where there is room for it
-pub record Certifies (forms tokens listing : List ℕ) (p : ℕ) (at : Progress) (budget : ℕ) (out₀ : List ℕ) (r : Evaluated) (out : List ℕ) : Type 0 where
+pub record Certifies (forms tokens listing : List ℕ) (p : ℕ) (at : Progress) (budget : ℕ) (out₀ : List ℕ) (r : Result Accepted Refusal) (out : List ℕ) : Type 0 where
   pub gives : (x : Writing forms at.state.props tokens at.tokens p listing) →
       Gives (written (length out₀) (certificate x.derived) (budget - at.state.remaining.0) (inferences x.derived.proof)) out₀ r out

@@ -10,11 +10,10 @@ ghost use Rattle.evaluator.specs.Door.{scratch, Gives, Evaluates};
 ghost use Rattle.expressions.specs.Machine.{shared};
 ghost use Rattle.evaluator.specs.Parts.{start, Rooted, Runs, Ending, Certifies};
 
-use certificates::Written;
-use deductions::{Conclusion, Progress, Site};
+use deductions::{Progress, Site};
 use expressions::State;
-use language::{Evaluated, Remaining, Work, refusal};
-use reader::{Counts, SheetRead};
+use language::{Accepted, Refusal, Remaining, Why, Work};
+use reader::Counts;
 
 // The fixed lengths of the scratch: the listing, in which the sheet's propositions are named while it is read; the table of formed propositions;
 // rows of patterns and of phrases; the base; bindings; the proof in tokens.
@@ -40,6 +39,7 @@ pub const NESTING: usize = 64;
 
 // The evaluation of a sheet. A budget over its limit and a buffer shorter than fixed are refused with everything as it was;
 // else each buffer of the scratch ends zero up to its fixed length and untouched past it, and the output is touched only by a certificate.
+#[tactic(auto, unfolding(language::specs::Doors::enough))]
 pub fn evaluate(
     sheet: &[u8],
     budget: usize,
@@ -51,14 +51,14 @@ pub fn evaluate(
     binds: &mut [u32],
     tokens: &mut [u32],
     out: &mut [u8],
-) -> Evaluated
+) -> Result<Accepted, Refusal>
     ensures { Evaluates sheet.now budget result out.old out.new (scratch listing.old forms.old patterns.old phrases.old base.old binds.old tokens.old) (scratch listing.new forms.new patterns.new phrases.new base.new binds.new tokens.new) }
 {
     if BUDGET < budget {
-        return Evaluated::Refused(refusal::BUDGET_OVER, 0);
+        return Err(Refusal(Why::BudgetOver, 0));
     }
     if is_short(listing, forms, patterns, phrases, base, binds, tokens) {
-        return Evaluated::Refused(refusal::SCRATCH_SHORT, 0);
+        return Err(Refusal(Why::ScratchShort, 0));
     }
     let r = answer(
         &mut listing[..LISTING],
@@ -77,6 +77,7 @@ pub fn evaluate(
 }
 
 // Whether a buffer is shorter than fixed.
+#[tactic(auto, unfolding(language::specs::Doors::enough))]
 fn is_short(
     listing: &[u32],
     forms: &[u32],
@@ -88,31 +89,17 @@ fn is_short(
 ) -> bool
     ensures { not result ≡ enough evaluation_lengths (scratch listing.now forms.now patterns.now phrases.now base.now binds.now tokens.now) }
 {
-    if listing.len() < LISTING {
-        return true;
-    }
-    if forms.len() < FORMS {
-        return true;
-    }
-    if patterns.len() < PATTERNS {
-        return true;
-    }
-    if phrases.len() < PHRASES {
-        return true;
-    }
-    if base.len() < BASE {
-        return true;
-    }
-    if binds.len() < BINDINGS {
-        return true;
-    }
-    if tokens.len() < TOKENS {
-        return true;
-    }
-    false
+    listing.len() < LISTING
+        || forms.len() < FORMS
+        || patterns.len() < PATTERNS
+        || phrases.len() < PHRASES
+        || base.len() < BASE
+        || binds.len() < BINDINGS
+        || tokens.len() < TOKENS
 }
 
 // Each buffer zero up to its fixed length.
+#[tactic(auto, unfolding(language::specs::Doors::enough))]
 fn clear(
     listing: &mut [u32],
     forms: &mut [u32],
@@ -146,16 +133,14 @@ fn answer(
     sheet: &[u8],
     budget: usize,
     out: &mut [u8],
-) -> Evaluated
+) -> Result<Accepted, Refusal>
     requires { (map length (scratch listing.old forms.old patterns.old phrases.old base.old binds.old tokens.old) ≡ evaluation_lengths) × (budget ≤ 1024) }
     ensures { Gives (answer sheet.now budget (length out.old)) out.old result out.new }
 {
-    match reader::read_sheet(listing, forms, patterns, phrases, base, sheet) {
-        SheetRead::Refused(why, place) => Evaluated::Refused(why, place),
-        SheetRead::Read(c) => run(
-            listing, forms, base, binds, tokens, phrases, patterns, c, budget, out,
-        ),
-    }
+    let c = reader::read_sheet(listing, forms, patterns, phrases, base, sheet)?;
+    run(
+        listing, forms, base, binds, tokens, phrases, patterns, c, budget, out,
+    )
 }
 
 // The root, run in the sheet's base, and its certificate.
@@ -170,16 +155,15 @@ fn run(
     c: Counts,
     budget: usize,
     out: &mut [u8],
-) -> Evaluated
+) -> Result<Accepted, Refusal>
     requires { Rooted (shared phrases.now patterns.now) (start forms.old binds.old base.old tokens.old c.words budget) c.base c.root listing.old }
     ensures { Runs (shared phrases.now patterns.now) (start forms.old binds.old base.old tokens.old c.words budget) c.base c.root out.old result out.new }
 {
-    let remaining = Remaining(budget);
     let at = Progress {
         state: State {
             props: c.words,
             bindings: 0,
-            remaining: remaining,
+            remaining: Remaining(budget),
         },
         tokens: 0,
     };
@@ -188,12 +172,10 @@ fn run(
         env: 0,
         depth: NESTING,
     };
-    match deductions::deduce(
+    let (p, end) = deductions::deduce(
         forms, binds, base, tokens, phrases, patterns, at, site, c.root,
-    ) {
-        Conclusion::Concluded(p, end) => certify(forms, tokens, listing, p, end, budget, out),
-        Conclusion::Refused(why, place) => Evaluated::Refused(why, place),
-    }
+    )?;
+    certify(forms, tokens, listing, p, end, budget, out)
 }
 
 // The certificate of a run that has ended with the conclusion p, where the output has room for it.
@@ -205,18 +187,17 @@ fn certify(
     end: Progress,
     budget: usize,
     out: &mut [u8],
-) -> Evaluated
+) -> Result<Accepted, Refusal>
     requires { Ending forms.now tokens.now listing.old p end budget }
     ensures { Certifies forms.now tokens.now listing.old p end budget out.old result out.new }
 {
-    let st = end.state;
-    let remaining = st.remaining;
-    let left = remaining.0;
-    match certificates::write(forms, st.props, tokens, end.tokens, p, listing, out) {
-        Written::Done(n, inferences) => {
-            let spent = budget - left;
-            Evaluated::Accepted(n, Work(spent), inferences)
-        }
-        Written::Short => Evaluated::Refused(refusal::OUTPUT_SHORT, 0),
-    }
+    let words = end.state.props;
+    let Some(w) = certificates::write(forms, words, tokens, end.tokens, p, listing, out) else {
+        return Err(Refusal(Why::OutputShort, 0));
+    };
+    Ok(Accepted {
+        length: w.length,
+        work: Work(budget - end.state.remaining.0),
+        inferences: w.inferences,
+    })
 }

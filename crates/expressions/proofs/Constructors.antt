@@ -1,4 +1,5 @@
 -- Constructors: one law for each return. The arguments stand on the empty chain, the last one first.
+use Rattle.std.specs.Prelude.{Option, Some, None, Ok}
 use mathlib.Core.Path.{◌≡◌, refl, sym, ap, subst, ◌∙◌}
 use mathlib.Core.Bool.{true, false}
 use mathlib.Core.List.{List, [], ◌∷◌}
@@ -27,9 +28,7 @@ use Rattle.bindings.specs.Numbers.{value_at, next_at, binding_at}
 use Rattle.bindings.specs.Stands.{Is, Stands, Chain}
 use Rattle.bindings.proofs.Tags.{tag, held}
 use Rattle.bindings.proofs.Chains.{chain_low}
-use Rattle.expressions.specs.declared.Piece.{Piece}
-use Rattle.expressions.specs.declared.Piece.TheVariants.{Formed, Other}
-use Rattle.expressions.specs.declared.Outcome.{Outcome}
+use Rattle.expressions.specs.declared.State.{State}
 use Rattle.expressions.specs.Machine.{Shared, M, refused, out_of, part_of, Made}
 use Rattle.expressions.specs.Asked.{Text, Applicable}
 use Rattle.expressions.specs.Meets.{Meets, Called}
@@ -38,12 +37,12 @@ use Rattle.expressions.proofs.Steps.{trees_few}
 
 -- pieces
 
-abbrev number : Piece → ℕ
-number (Formed p) = suc p
-number Other = 0
+abbrev number : Option ℕ → ℕ
+number (Some p) = suc p
+number None = 0
 
 module _ (rows : List (List ℕ)) (fs : List Form) (t : List ℕ) (n : ℕ) where
-  pub formed_piece : (X : Val) (v : Value) (p : ℕ) → Stands rows fs t n X v → part_of v ≡ Formed p → (P : Form) × (X ≡ form P) × Is fs p P
+  pub formed_piece : (X : Val) (v : Value) (p : ℕ) → Stands rows fs t n X v → part_of v ≡ Some p → (P : Form) × (X ≡ form P) × Is fs p P
   unfolding Stands
   formed_piece (form P) v p x e =
       let y : x.0 ≡ p = let z = ap number (ap part_of (sym x.1) ∙ e) in omega arith in
@@ -55,7 +54,7 @@ module _ (rows : List (List ℕ)) (fs : List Form) (t : List ℕ) (n : ℕ) wher
   formed_piece (closure function true m b i) v p x e = absurd (let z = ap number (ap part_of (sym x.2) ∙ e) in omega arith)
   formed_piece (closure method true m b i) v p x e = absurd (let z = ap number (ap part_of (sym x.2) ∙ e) in omega arith)
 
-  pub other_piece : (X : Val) (v : Value) (k : ℕ) (f : Form → Out Val) → Stands rows fs t n X v → part_of v ≡ Other → as_form X k f ≡ stop wrong_kind k
+  pub other_piece : (X : Val) (v : Value) (k : ℕ) (f : Form → Out Val) → Stands rows fs t n X v → part_of v ≡ None → as_form X k f ≡ stop wrong_kind k
   unfolding Stands as_form
   other_piece (form P) v k f x e = absurd (let z = ap number (ap part_of (sym x.1) ∙ e) in omega arith)
   other_piece (con_v c) v k f x e = refl
@@ -123,8 +122,8 @@ module _ (rows : List (List ℕ)) (fs : List Form) (t : List ℕ) (n : ℕ) wher
 
 -- a proposition formed: its record, and what the language constructs
 
-formed_meets : (rows : List (List ℕ)) (m : M) (fs : List Form) (c p q : ℕ) (y : Rec) (F : Form) (t : List ℕ) (o : Outcome) → Table (used m) fs → m.st.props < length m.forms → length m.forms ≤ 16384
-    → code y ≡ word (3 + c) p q → Below (length (used m)) y → formed fs y ≡ F → Made c p q m.st m.forms t o → Meets 1 0 rows m fs (out_of t m.binds o) (out (form F) m.st.remaining.0)
+formed_meets : (rows : List (List ℕ)) (m : M) (fs : List Form) (c p q : ℕ) (y : Rec) (F : Form) (t : List ℕ) (o : Value × State) → Table (used m) fs → m.st.props < length m.forms → length m.forms ≤ 16384
+    → code y ≡ word (3 + c) p q → Below (length (used m)) y → formed fs y ≡ F → Made c p q m.st m.forms t o → Meets 1 0 rows m fs (out_of t m.binds (Ok o)) (out (form F) m.st.remaining.0)
 unfolding Meets Stands
 formed_meets rows m fs c p q y F t o T room small e below f made =
     let n = m.st.props in
@@ -153,7 +152,7 @@ formed_meets rows m fs c p q y F t o T room small e below f made =
       refl,
     )
 
-not_meets : (rows : List (List ℕ)) (m : M) (fs : List Form) (c p : ℕ) (P : Form) (t : List ℕ) (o : Outcome) → Table (used m) fs → m.st.props < length m.forms → length m.forms ≤ 16384 → c ≡ 0 → Is fs p P → Made c p 0 m.st m.forms t o → Meets 1 0 rows m fs (out_of t m.binds o) (out (form (neg P)) m.st.remaining.0)
+not_meets : (rows : List (List ℕ)) (m : M) (fs : List Form) (c p : ℕ) (P : Form) (t : List ℕ) (o : Value × State) → Table (used m) fs → m.st.props < length m.forms → length m.forms ≤ 16384 → c ≡ 0 → Is fs p P → Made c p 0 m.st m.forms t o → Meets 1 0 rows m fs (out_of t m.binds (Ok o)) (out (form (neg P)) m.st.remaining.0)
 unfolding Below formed
 not_meets rows m fs c p P t o T room small z x made =
     let count = T.count in
@@ -171,7 +170,7 @@ join_code (suc (suc zero)) p q h = refl
 join_code (suc (suc (suc zero))) p q h = refl
 join_code (suc (suc (suc (suc c)))) p q h = absurd (omega arith)
 
-join_meets : (rows : List (List ℕ)) (m : M) (fs : List Form) (c p q : ℕ) (P Q : Form) (t : List ℕ) (o : Outcome) → Table (used m) fs → m.st.props < length m.forms → length m.forms ≤ 16384 → (c ≡ 0 → ⊥) → c ≤ 4 → Is fs p P → Is fs q Q → Made c p q m.st m.forms t o → Meets 1 0 rows m fs (out_of t m.binds o) (out (form (constructed c (P ∷ (Q ∷ [])))) m.st.remaining.0)
+join_meets : (rows : List (List ℕ)) (m : M) (fs : List Form) (c p q : ℕ) (P Q : Form) (t : List ℕ) (o : Value × State) → Table (used m) fs → m.st.props < length m.forms → length m.forms ≤ 16384 → (c ≡ 0 → ⊥) → c ≤ 4 → Is fs p P → Is fs q Q → Made c p q m.st m.forms t o → Meets 1 0 rows m fs (out_of t m.binds (Ok o)) (out (form (constructed c (P ∷ (Q ∷ [])))) m.st.remaining.0)
 unfolding Below formed constructed conn_of
 join_meets rows m fs zero p q P Q t o T room small z h x y made = absurd (z refl)
 join_meets rows m fs (suc c) p q P Q t o T room small z h x y made =
@@ -225,40 +224,40 @@ module _ (s : Shared) (d c y n k : ℕ) (m : M) where
     abbrev first_value : Value
     first_value = value_at m.binds (next_at m.binds (y - 1) - 1)
 
-    value_is : (r : Piece) → part_of b.value ≡ r → part_of last_value ≡ r
+    value_is : (r : Option ℕ) → part_of b.value ≡ r → part_of last_value ≡ r
     value_is r e = ap (λ (u : Binding). part_of u.value) (sym g) ∙ e
 
-    first_is : (u : Binding) → u ≡ binding_at m.binds (b.next - 1) → (r : Piece) → part_of u.value ≡ r → part_of first_value ≡ r
+    first_is : (u : Binding) → u ≡ binding_at m.binds (b.next - 1) → (r : Option ℕ) → part_of u.value ≡ r → part_of first_value ≡ r
     first_is u v r e = ap (λ (z : Binding). part_of (value_at m.binds (z.next - 1))) (sym g) ∙ ap (λ (z : Binding). part_of z.value) (sym v) ∙ e
 
-    pub con_one : (q : ℕ) (t : List ℕ) (o : Outcome) → m.st.props < length m.forms → length m.forms ≤ 16384 → c ≡ 0 → part_of b.value ≡ Formed q → Made c q 0 m.st m.forms t o → Called s d (Constructor c) y n k m (out_of t m.binds o)
+    pub con_one : (q : ℕ) (t : List ℕ) (o : Value × State) → m.st.props < length m.forms → length m.forms ≤ 16384 → c ≡ 0 → part_of b.value ≡ Some q → Made c q 0 m.st m.forms t o → Called s d (Constructor c) y n k m (out_of t m.binds (Ok o))
     con_one q t o room small z e f = record {
       meets = λ x fs X vs w st ch l.
           let E = evaluate x.phrases d in
           let is = con_is x.rows fs m.binds m.st.bindings X c st in
           let u = one_here x.rows fs m.binds m.st.bindings X vs c y n st ch l (j ∙ i) z in
-          let P = formed_piece x.rows fs m.binds m.st.bindings u.last last_value q u.stands (value_is (Formed q) e) in
+          let P = formed_piece x.rows fs m.binds m.st.bindings u.last last_value q u.stands (value_is (Some q) e) in
           let p : called E X vs k m.st.remaining.0 ≡ out (form (neg P.0)) m.st.remaining.0 =
           ap (λ (Y : Val). called E Y vs k m.st.remaining.0) is.0 ∙ ap (λ (l : List Val). called E (con_v c) l k m.st.remaining.0) (u.all ∙ ap (λ (Y : Val). Y ∷ []) P.1) ∙ called_one E k m.st.remaining.0 c P.0 z in
-          subst (Meets 1 0 x.rows m fs (out_of t m.binds o)) (sym p) (not_meets x.rows m fs c q P.0 t o w.legible.table room small z P.2 f);
+          subst (Meets 1 0 x.rows m fs (out_of t m.binds (Ok o))) (sym p) (not_meets x.rows m fs c q P.0 t o w.legible.table room small z P.2 f);
     }
 
-    pub con_two : (p q : ℕ) (v : Binding) (t : List ℕ) (o : Outcome) → m.st.props < length m.forms → length m.forms ≤ 16384 → (c ≡ 0 → ⊥) → part_of b.value ≡ Formed q → v ≡ binding_at m.binds (b.next - 1) → part_of v.value ≡ Formed p → Made c p q m.st m.forms t o → Called s d (Constructor c) y n k m (out_of t m.binds o)
+    pub con_two : (p q : ℕ) (v : Binding) (t : List ℕ) (o : Value × State) → m.st.props < length m.forms → length m.forms ≤ 16384 → (c ≡ 0 → ⊥) → part_of b.value ≡ Some q → v ≡ binding_at m.binds (b.next - 1) → part_of v.value ≡ Some p → Made c p q m.st m.forms t o → Called s d (Constructor c) y n k m (out_of t m.binds (Ok o))
     con_two p q v t o room small z e h f r = record {
       meets = λ x fs X vs w st ch l.
           let E = evaluate x.phrases d in
           let is = con_is x.rows fs m.binds m.st.bindings X c st in
           let u = two_here x.rows fs m.binds m.st.bindings X vs c y n st ch l (j ∙ i) z in
-          let Q = formed_piece x.rows fs m.binds m.st.bindings u.last last_value q u.stands (value_is (Formed q) e) in
-          let P = formed_piece x.rows fs m.binds m.st.bindings u.first first_value p u.before (first_is v h (Formed p) f) in
+          let Q = formed_piece x.rows fs m.binds m.st.bindings u.last last_value q u.stands (value_is (Some q) e) in
+          let P = formed_piece x.rows fs m.binds m.st.bindings u.first first_value p u.before (first_is v h (Some p) f) in
           let T : called E X vs k m.st.remaining.0 ≡ out (form (constructed c (P.0 ∷ (Q.0 ∷ [])))) m.st.remaining.0 =
           ap (λ (Y : Val). called E Y vs k m.st.remaining.0) is.0
           ∙ ap (λ (l : List Val). called E (con_v c) l k m.st.remaining.0) (u.all ∙ ap (λ (Y : Val). Y ∷ (u.last ∷ [])) P.1 ∙ ap (λ (Y : Val). form P.0 ∷ (Y ∷ [])) Q.1)
           ∙ called_two E k m.st.remaining.0 c P.0 Q.0 z in
-          subst (Meets 1 0 x.rows m fs (out_of t m.binds o)) (sym T) (join_meets x.rows m fs c p q P.0 Q.0 t o w.legible.table room small z is.1 P.2 Q.2 r);
+          subst (Meets 1 0 x.rows m fs (out_of t m.binds (Ok o))) (sym T) (join_meets x.rows m fs c p q P.0 Q.0 t o w.legible.table room small z is.1 P.2 Q.2 r);
     }
 
-    pub con_first_other : (v : Binding) → (c ≡ 0 → ⊥) → v ≡ binding_at m.binds (b.next - 1) → part_of v.value ≡ Other → Called s d (Constructor c) y n k m (refused wrong_kind k)
+    pub con_first_other : (v : Binding) → (c ≡ 0 → ⊥) → v ≡ binding_at m.binds (b.next - 1) → part_of v.value ≡ None → Called s d (Constructor c) y n k m (refused wrong_kind k)
     unfolding Meets
     con_first_other v z h e = record {
       meets = λ x fs X vs w st ch l.
@@ -266,11 +265,11 @@ module _ (s : Shared) (d c y n k : ℕ) (m : M) where
           let u = two_here x.rows fs m.binds m.st.bindings X vs c y n st ch l (j ∙ i) z in
           let T : called E X vs k m.st.remaining.0 ≡ stop wrong_kind k =
           ap (λ (Y : Val). called E Y vs k m.st.remaining.0) (con_is x.rows fs m.binds m.st.bindings X c st).0 ∙ ap (λ (l : List Val). called E (con_v c) l k m.st.remaining.0) u.all
-          ∙ first_other E k m.st.remaining.0 c u.first u.last z (λ f. other_piece x.rows fs m.binds m.st.bindings u.first first_value k f u.before (first_is v h Other e)) in
+          ∙ first_other E k m.st.remaining.0 c u.first u.last z (λ f. other_piece x.rows fs m.binds m.st.bindings u.first first_value k f u.before (first_is v h None e)) in
           subst (Meets 1 0 x.rows m fs (refused wrong_kind k)) (sym T) (refl, refl);
     }
 
-    pub con_last_other : part_of b.value ≡ Other → Called s d (Constructor c) y n k m (refused wrong_kind k)
+    pub con_last_other : part_of b.value ≡ None → Called s d (Constructor c) y n k m (refused wrong_kind k)
     unfolding Meets
     con_last_other e = record { meets = λ x fs X vs w st ch l. go x fs X vs st ch l (dec_eq c 0) }
       where
@@ -280,14 +279,14 @@ module _ (s : Shared) (d c y n k : ℕ) (m : M) where
             let u = one_here x.rows fs m.binds m.st.bindings X vs c y n st ch l (j ∙ i) z in
             let T : called E X vs k m.st.remaining.0 ≡ stop wrong_kind k =
             ap (λ (Y : Val). called E Y vs k m.st.remaining.0) (con_is x.rows fs m.binds m.st.bindings X c st).0 ∙ ap (λ (l : List Val). called E (con_v c) l k m.st.remaining.0) u.all
-            ∙ one_other E k m.st.remaining.0 c u.last z (λ f. other_piece x.rows fs m.binds m.st.bindings u.last last_value k f u.stands (value_is Other e)) in
+            ∙ one_other E k m.st.remaining.0 c u.last z (λ f. other_piece x.rows fs m.binds m.st.bindings u.last last_value k f u.stands (value_is None e)) in
             subst (Meets 1 0 x.rows m fs (refused wrong_kind k)) (sym T) (refl, refl)
         go x fs X vs st ch l (no z) =
             let E = evaluate x.phrases d in
             let u = two_here x.rows fs m.binds m.st.bindings X vs c y n st ch l (j ∙ i) z in
             let T : called E X vs k m.st.remaining.0 ≡ stop wrong_kind k =
             ap (λ (Y : Val). called E Y vs k m.st.remaining.0) (con_is x.rows fs m.binds m.st.bindings X c st).0 ∙ ap (λ (l : List Val). called E (con_v c) l k m.st.remaining.0) u.all
-            ∙ last_other E k m.st.remaining.0 c u.first u.last z (λ f. other_piece x.rows fs m.binds m.st.bindings u.last last_value k f u.stands (value_is Other e)) in
+            ∙ last_other E k m.st.remaining.0 c u.first u.last z (λ f. other_piece x.rows fs m.binds m.st.bindings u.last last_value k f u.stands (value_is None e)) in
             subst (Meets 1 0 x.rows m fs (refused wrong_kind k)) (sym T) (refl, refl)
 
 -- what the reads ask
@@ -323,24 +322,24 @@ module _ (s : Shared) (c y n : ℕ) (m : M) (A : Applicable s m (Constructor c) 
       let r = A.room.binds in
       rw g (h, omega arith)
 
-  piece_low : (X : Val) (v : Value) (q : ℕ) → Stands A.text.rows A.formed m.binds m.st.bindings X v → part_of v ≡ Formed q → q < 16384
+  piece_low : (X : Val) (v : Value) (q : ℕ) → Stands A.text.rows A.formed m.binds m.st.bindings X v → part_of v ≡ Some q → q < 16384
   piece_low X v q st e =
       let P = formed_piece A.text.rows A.formed m.binds m.st.bindings X v q st e in
       let l = P.2.low in
       let f = trees_few m A.formed A.world.legible.table in
       omega arith
 
-  pub last_low : (b : Binding) (q : ℕ) → b ≡ binding_at m.binds (y - 1) → part_of b.value ≡ Formed q → q < 16384
+  pub last_low : (b : Binding) (q : ℕ) → b ≡ binding_at m.binds (y - 1) → part_of b.value ≡ Some q → q < 16384
   last_low b q g e = go (dec_eq c 0)
     where
-      is : part_of (value_at m.binds (y - 1)) ≡ Formed q
+      is : part_of (value_at m.binds (y - 1)) ≡ Some q
       is = ap (λ (u : Binding). part_of u.value) (sym g) ∙ e
 
       go : Dec (c ≡ 0) → q < 16384
       go (yes z) = let u = one_argument z in piece_low u.last (value_at m.binds (y - 1)) q u.stands is
       go (no z) = let u = two_arguments z in piece_low u.last (value_at m.binds (y - 1)) q u.stands is
 
-  pub first_low : (b v : Binding) (p : ℕ) → b ≡ binding_at m.binds (y - 1) → (c ≡ 0 → ⊥) → v ≡ binding_at m.binds (b.next - 1) → part_of v.value ≡ Formed p → p < 16384
+  pub first_low : (b v : Binding) (p : ℕ) → b ≡ binding_at m.binds (y - 1) → (c ≡ 0 → ⊥) → v ≡ binding_at m.binds (b.next - 1) → part_of v.value ≡ Some p → p < 16384
   first_low b v p g z h e =
       let u = two_arguments z in
       piece_low u.first (value_at m.binds (next_at m.binds (y - 1) - 1)) p u.before

@@ -1,21 +1,16 @@
 -- The parts that run no expression: a closure, a variable, a constructor's count.
-use mathlib.Core.Path.{◌≡◌, refl}
+use Rattle.std.specs.Prelude.{Option, None, Result, Ok, Err, ok_or}
+use mathlib.Core.Path.{◌≡◌, refl, ap}
 use Prim.Native.Nat.{ℕ, zero, suc, ◌<◌, ◌≤◌}
 use native.Mathlib.Omega.{arith}
 use borrow.Author.Tests.{eq-eqb, ne_eqb}
-use Rattle.bindings.specs.declared.Value.{Value}
 use Rattle.bindings.specs.declared.Value.TheVariants.{Function, Method}
-use Rattle.bindings.specs.declared.Found.{Found}
-use Rattle.bindings.specs.declared.Found.TheVariants.{Bound, Free}
 use Rattle.bindings.specs.Numbers.{closure_of, SmallValue}
 use Rattle.bindings.specs.Stands.{closed}
-use Rattle.language.specs.Refusals.{no_binding}
+use Rattle.language.specs.declared.refusal.Refusal.{Refusal}
 use Rattle.language.specs.Syntax.{Sort, function, method}
 use Rattle.language.specs.Run.{takes}
 use Rattle.records.specs.Rows.{sort_of, sort_by}
-use Rattle.expressions.specs.declared.State.{State}
-use Rattle.expressions.specs.declared.Outcome.TheVariants.{Done, Refused}
-use Rattle.expressions.specs.Machine.{variable_of}
 
 module _ (k a e : ℕ) where
   pub closure_method : k ≡ 5 → Method (closure_of a e) ≡ closed (sort_of k) (closure_of a e)
@@ -30,13 +25,14 @@ pub closed_small : (s : Sort) (a e : ℕ) → a < 16384 → e ≤ 16384 → Smal
 closed_small function a e h g = (omega arith, omega arith)
 closed_small method a e h g = (omega arith, omega arith)
 
-pub bound_is : (k : ℕ) (st : State) (r x : Found) (v : Value) → r ≡ x → r ≡ Bound v → Done v st ≡ variable_of k st x
-unfolding variable_of
-bound_is k st r x v e f = rw (← e, f)
+-- the error of an `ok_or` that found nothing
+error_of : {T : Type 0} → Refusal → Result T Refusal → Refusal
+error_of d (Ok x) = d
+error_of d (Err e) = e
 
-pub free_is : (k : ℕ) (st : State) (r x : Found) → r ≡ x → r ≡ Free → Refused no_binding k ≡ variable_of k st x
-unfolding variable_of
-free_is k st r x e f = rw (← e, f)
+pub refused_by : {T : Type 0} (o : Option T) (d e : Refusal) → o ≡ None → Err e ≡ ok_or o d → e ≡ d
+unfolding error_of
+refused_by o d e h v = ap (error_of e) (rw h at v)
 
 pub takes_one : (c : ℕ) → c ≡ 0 → 1 ≡ takes c
 unfolding takes

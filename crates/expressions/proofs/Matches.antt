@@ -1,4 +1,5 @@
 -- Matches: one law for each return of the functions that evaluate the first phrase and run the clause that fits.
+use Rattle.std.specs.Prelude.{Some, None}
 use mathlib.Core.Path.{◌≡◌, refl, sym, ap, subst, ◌∙◌}
 use mathlib.Core.List.{List, [], ◌++◌, map, append-nil}
 use Prim.Native.Nat.{ℕ, ◌+◌, ◌*◌, ◌≤◌, ◌<◌}
@@ -17,11 +18,9 @@ use Rattle.bindings.specs.declared.Value.TheVariants.{Prop, Constructor, Rule, F
 use Rattle.bindings.specs.Stands.{Chain}
 use Rattle.bindings.proofs.Chains.{chain_low}
 use Rattle.patterns.specs.declared.Parts.{Parts}
-use Rattle.patterns.specs.declared.Choice.TheVariants.{Chosen, Unfit}
 use Rattle.patterns.specs.Parts.{numbers}
 use Rattle.patterns.specs.Fitting.{Offered, Picked, ChosenSo}
 use Rattle.patterns.proofs.Clauses.{OnBody, body_of, Binds, binds_of}
-use Rattle.expressions.specs.declared.Piece.TheVariants.{Other}
 use Rattle.expressions.specs.Machine.{Shared, M, mk, counters, MOut, done, refused, kind, one, two, part_of, chained, outermost}
 use Rattle.expressions.specs.Asked.{Text, Row, World, Ready, Matching, Bindable}
 use Rattle.expressions.specs.Meets.{Grew, Meets, Evaluated, Stepped, Selected}
@@ -60,15 +59,15 @@ module _ (s : Shared) (env k p : ℕ) (m : M) (n : ℕ) (i : n ≡ two s.phrases
   body_at x fs P W h is = body_of (Row x) x.patterns P n (12 * k + 3) s.phrases (λ j l. (clause_rows x fs s m W k h is j (omega arith)).1)
 
   -- no clause fits
-  pub none_fits : (d : ℕ) → ChosenSo m.forms s.patterns s.phrases (12 * k + 3) n p Unfit → Selected s d env k p m (refused no_clause k)
+  pub none_fits : (d : ℕ) → ChosenSo m.forms s.patterns s.phrases (12 * k + 3) n p None → Selected s d env k p m (refused no_clause k)
   unfolding Meets on_choice Picked
   none_fits d C = record { meets = λ x fs e W h is low c. rw (← i) (go x fs e (clauses x (tree fs p)) (C.meets (offered x fs s m k n p W h is i low))) }
     where
-      go : (x : Text) (fs : List Form) (e : Env) (q : ChosenClause) → Picked fs Unfit q → Meets 0 4 x.rows m fs (refused no_clause k) (on_choice q k (λ b ps. evaluate x.phrases d (with_forms e ps) b m.st.remaining.0))
+      go : (x : Text) (fs : List Form) (e : Env) (q : ChosenClause) → Picked fs None q → Meets 0 4 x.rows m fs (refused no_clause k) (on_choice q k (λ b ps. evaluate x.phrases d (with_forms e ps) b m.st.remaining.0))
       go x fs e (chosen b ps) z = absurd z
       go x fs e unfit z = (refl, refl)
 
-  module _ (body : ℕ) (parts : Parts) (C : ChosenSo m.forms s.patterns s.phrases (12 * k + 3) n p (Chosen body parts)) where
+  module _ (body : ℕ) (parts : Parts) (C : ChosenSo m.forms s.patterns s.phrases (12 * k + 3) n p (Some (body, parts))) where
     pub parts_bindable : Matching s m env k p → Bindable m.binds m.st.bindings env parts
     unfolding Picked
     parts_bindable M = go (clauses r.text (tree r.formed p)) (C.meets (clauses_offered'))
@@ -79,7 +78,7 @@ module _ (s : Shared) (env k p : ℕ) (m : M) (n : ℕ) (i : n ≡ two s.phrases
         clauses_offered' : Offered m.forms s.patterns s.phrases (12 * k + 3) n p
         clauses_offered' = offered r.text r.formed s m k n p r.world r.row M.kind i M.low
 
-        go : (q : ChosenClause) → Picked r.formed (Chosen body parts) q → Bindable m.binds m.st.bindings env parts
+        go : (q : ChosenClause) → Picked r.formed (Some (body, parts)) q → Bindable m.binds m.st.bindings env parts
         go (chosen b ps) z =
             let B = binds_of r.formed ps parts z.1.0 z.1.1 z.1.2 z.1.3 in
             let few = B.few in
@@ -131,7 +130,7 @@ module _ (s : Shared) (env k p : ℕ) (m : M) (n : ℕ) (i : n ≡ two s.phrases
           r : Ready s m env k 4 4
           r = M.ready
 
-          go : (q : ChosenClause) → Picked r.formed (Chosen body parts) q → OnBody (Row r.text) q → Ready s bound y body 0 0
+          go : (q : ChosenClause) → Picked r.formed (Some (body, parts)) q → OnBody (Row r.text) q → Ready s bound y body 0 0
           go (chosen b ps) z h =
               let D = binds_of r.formed ps parts z.1.0 z.1.1 z.1.2 z.1.3 in
               let few = D.few in
@@ -154,7 +153,7 @@ module _ (s : Shared) (env k p : ℕ) (m : M) (n : ℕ) (i : n ≡ two s.phrases
         meets = λ x fs e W h is low c. rw (← i) (go x fs e W c (clauses x (tree fs p)) (C.meets (offered x fs s m k n p W h is i low)) (body_at x fs (tree fs p) W h is));
       }
         where
-          go : (x : Text) (fs : List Form) (e : Env) → World x fs s m → Chain x.rows fs m.binds m.st.bindings e env → (q : ChosenClause) → Picked fs (Chosen body parts) q → OnBody (Row x) q
+          go : (x : Text) (fs : List Form) (e : Env) → World x fs s m → Chain x.rows fs m.binds m.st.bindings e env → (q : ChosenClause) → Picked fs (Some (body, parts)) q → OnBody (Row x) q
               → Meets 0 4 x.rows m fs o (on_choice q k (λ b ps. evaluate x.phrases d (with_forms e ps) b m.st.remaining.0))
           go x fs e W c (chosen b ps) z h =
               let D = binds_of fs ps parts z.1.0 z.1.1 z.1.2 z.1.3 in
@@ -168,7 +167,7 @@ module _ (s : Shared) (env k p : ℕ) (m : M) (n : ℕ) (i : n ≡ two s.phrases
 -- the first phrase
 
 -- a value that is none of the first kind is no proposition
-pub other_kind : (v : Value) → ((p : ℕ) → v ≡ Prop p → ⊥) → part_of v ≡ Other
+pub other_kind : (v : Value) → ((p : ℕ) → v ≡ Prop p → ⊥) → part_of v ≡ None
 other_kind (Prop p) h = absurd (h p refl)
 other_kind (Constructor c) h = refl
 other_kind (Rule r) h = refl
@@ -203,7 +202,7 @@ module _ (s : Shared) (d env k : ℕ) (m : M) (is : kind s.phrases k ≡ 9) (a :
   }
 
   -- a value of another kind
-  pub subject_other : (v : Value) (m₁ : M) → part_of v ≡ Other → Evaluated s d env a m (done v m₁) → Stepped s d env k m (refused wrong_kind k)
+  pub subject_other : (v : Value) (m₁ : M) → part_of v ≡ None → Evaluated s d env a m (done v m₁) → Stepped s d env k m (refused wrong_kind k)
   unfolding Meets next
   subject_other v m₁ q A = record {
     meets = λ x fs e w h c. subst (Meets 4 4 x.rows m fs (refused wrong_kind k)) (sym (match_step x fs w h e m.st.remaining.0))

@@ -1,6 +1,7 @@
 -- Applying an operator: one law for each return.
 use mathlib.Core.Path.{◌≡◌, refl, sym, ap, ◌∙◌}
 use mathlib.Core.Bool.{true, false}
+use mathlib.Core.Logic.{◌⊎◌, inl, inr}
 use mathlib.Core.List.{List}
 use Prim.Native.Nat.{ℕ, ◌+◌, ◌*◌, ◌≤◌, ◌<◌}
 use native.Mathlib.Omega.{arith}
@@ -42,14 +43,11 @@ not_called s d v y n k m h g = record {
       rw (wrong (evaluate x.phrases d) X vs k m.st.remaining.0 (λ z. h (sym t ∙ z)) (λ z. g (sym t ∙ z))) (refl, refl);
 }
 
-pub prop_called : (s : Shared) (d : ℕ) (v : Value) (y n k p : ℕ) (m : M) → v ≡ Prop p → Called s d v y n k m (refused wrong_kind k)
-prop_called s d v y n k p m e = not_called s d v y n k m (λ z. let t = ap tag e in omega arith) (λ z. let t = ap tag e in omega arith)
-
-pub rule_called : (s : Shared) (d : ℕ) (v : Value) (y n k r : ℕ) (m : M) → v ≡ Rule r → Called s d v y n k m (refused wrong_kind k)
-rule_called s d v y n k r m e = not_called s d v y n k m (λ z. let t = ap tag e in omega arith) (λ z. let t = ap tag e in omega arith)
-
-pub method_called : (s : Shared) (d : ℕ) (v : Value) (y n k : ℕ) (f : Closure) (m : M) → v ≡ Method f → Called s d v y n k m (refused wrong_kind k)
-method_called s d v y n k f m e = not_called s d v y n k m (λ z. let t = ap tag e in omega arith) (λ z. let t = ap tag e in omega arith)
+pub other_called : (s : Shared) (d : ℕ) (v : Value) (y n k : ℕ) (m : M) →
+    (((p : ℕ) × (v ≡ Prop p)) ⊎ ((r : ℕ) × (v ≡ Rule r)) ⊎ ((f : Closure) × (v ≡ Method f))) → Called s d v y n k m (refused wrong_kind k)
+other_called s d v y n k m (inl (p, e)) = not_called s d v y n k m (λ z. let t = ap tag e in omega arith) (λ z. let t = ap tag e in omega arith)
+other_called s d v y n k m (inr (inl (r, e))) = not_called s d v y n k m (λ z. let t = ap tag e in omega arith) (λ z. let t = ap tag e in omega arith)
+other_called s d v y n k m (inr (inr (f, e))) = not_called s d v y n k m (λ z. let t = ap tag e in omega arith) (λ z. let t = ap tag e in omega arith)
 
 -- functions
 

@@ -1,9 +1,11 @@
 -- What a pattern binds, put on a chain: one binding, then the rest on top of it.
 use mathlib.Core.Path.{◌≡◌, refl, ◌∙◌}
 use mathlib.Core.List.{List, [], ◌∷◌, map}
-use Prim.Native.Nat.{ℕ, zero, suc, ◌+◌, ◌*◌, ◌-◌, ◌≤◌, ◌<◌}
+use Prim.Native.Nat.{ℕ, zero, suc, ◌+◌, ◌*◌, ◌≤◌, ◌<◌}
 use native.Mathlib.Omega.{arith}
-use lib.ListN.{length}
+use lib.ListN.{length, get_or, take, drop}
+use Rattle.std.proofs.lemmas.List.{drop_more, drop_all}
+use Rattle.theorems.proofs.Lists.{all_at}
 use lib.Seq.{sets, length-sets}
 use Rattle.language.specs.Form.{Form}
 use Rattle.language.specs.Values.{form, Env, ◌▸◌, with_forms}
@@ -19,50 +21,38 @@ use Rattle.patterns.specs.Parts.{numbers}
 use Rattle.expressions.specs.Machine.{chained, outermost}
 use Rattle.expressions.specs.Asked.{Bindable}
 
--- the parts after the first
-abbrev pub later : Parts → Parts
-later p = record { count = p.count - 1; first = p.second; second = p.third; third = p.fourth; fourth = 0 }
+-- so many of the numbers are bound: the others go on from there
+abbrev pub Reached : List ℕ → ℕ → ℕ → List ℕ → List ℕ → ℕ → ℕ → Type 0
+Reached t₀ n env ns t i top = (outermost (n + i) top (drop i ns) ≡ outermost n env ns) × (chained t (n + i) top (drop i ns) ≡ chained t₀ n env ns) × (top ≤ n + i)
 
--- the numbers are the first one and the later ones
-numbers_by : (n a b c d : ℕ) → (n ≡ 0 → ⊥) → n ≤ 4 → numbers (record { count = n; first = a; second = b; third = c; fourth = d }) ≡ a ∷ numbers (record { count = n - 1; first = b; second = c; third = d; fourth = 0 })
-numbers_by zero a b c d h l = absurd (h refl)
-numbers_by (suc zero) a b c d h l = refl
-numbers_by (suc (suc zero)) a b c d h l = refl
-numbers_by (suc (suc (suc zero))) a b c d h l = refl
-numbers_by (suc (suc (suc (suc zero)))) a b c d h l = refl
-numbers_by (suc (suc (suc (suc (suc n))))) a b c d h l = absurd (omega arith)
+pub none_bound : (t : List ℕ) (n env : ℕ) (ns : List ℕ) → env ≤ n → Reached t n env ns t 0 env
+none_bound t n env ns h = let z : n + 0 ≡ n = omega arith in rw z (refl, refl, h)
 
-pub first_later : (p : Parts) → (p.count ≡ 0 → ⊥) → p.count ≤ 4 → numbers p ≡ p.first ∷ numbers (later p)
-first_later p h l = numbers_by p.count p.first p.second p.third p.fourth h l
-
--- the returns
-
-pub none_bound : (t : List ℕ) (n env : ℕ) (p : Parts) → p.count ≡ 0 → (env ≡ outermost n env (numbers p)) × (t ≡ chained t n env (numbers p))
+pub more_bound : (t₀ t : List ℕ) (n env : ℕ) (ns : List ℕ) (i top : ℕ) → i < length ns → Reached t₀ n env ns t i top →
+    Reached t₀ n env ns (sets t (4 * (n + i)) (numbers_of (Prop (get_or ns i 0)) top)) (i + 1) (n + i + 1)
 unfolding chained outermost
-none_bound t n env p e = rw e (refl, refl)
+more_bound t₀ t n env ns i top h r =
+    let d = drop_more ns i 0 h in
+    let z : n + (i + 1) ≡ n + i + 1 = omega arith in
+    rw z (rw d at r.0, rw d at r.1, omega arith)
 
-module _ (t : List ℕ) (n env : ℕ) (p : Parts) (h : p.count ≡ 0 → ⊥) (A : Bindable t n env p) where
-  first_low : (p.first < 16384) × All (λ q. q < 16384) (numbers (later p))
-  first_low = rw (first_later p h A.few) at A.low
+pub all_bound : (t₀ t : List ℕ) (n env : ℕ) (ns : List ℕ) (i top : ℕ) → length ns ≤ i → Reached t₀ n env ns t i top → (top ≡ outermost n env ns) × (t ≡ chained t₀ n env ns)
+unfolding chained outermost
+all_bound t₀ t n env ns i top h r = let d = drop_all i ns h in (rw d at r.0, rw d at r.1)
 
-  pub bound_fits : (4 * n + 4 ≤ length t) × Small (record { value = Prop p.first; next = env })
-  bound_fits =
-      let r = A.room in let s = A.short in let f = A.from in let l = first_low.0 in
-      (omega arith, record { value = omega arith; next = omega arith })
+few_taken : (n : ℕ) (l : List ℕ) → length (take n l) ≤ n
+few_taken zero l = omega arith
+few_taken (suc n) [] = omega arith
+few_taken (suc n) (x ∷ l) = let f = few_taken n l in omega arith
 
-  abbrev pub after_first : List ℕ
-  after_first = sets t (4 * n) (numbers_of (Prop p.first) env)
-
-  pub bindable_later : Bindable after_first (n + 1) (n + 1) (later p)
-  bindable_later =
-      let r = A.room in let s = A.short in let few = A.few in
-      let l = length-sets t (4 * n) (numbers_of (Prop p.first) env) in
-      record { few = omega arith; low = first_low.1; from = omega arith; room = omega arith; short = omega arith }
-
-  pub more_bound : (t₁ t₂ : List ℕ) (y : ℕ) → t₁ ≡ after_first → (y ≡ outermost (n + 1) (n + 1) (numbers (later p))) × (t₂ ≡ chained t₁ (n + 1) (n + 1) (numbers (later p)))
-      → (y ≡ outermost n env (numbers p)) × (t₂ ≡ chained t n env (numbers p))
-  unfolding chained outermost
-  more_bound t₁ t₂ y e (a, b) = rw (first_later p h A.few) (a, b ∙ rw e)
+pub bound_fits : (t t' : List ℕ) (n env : ℕ) (p : Parts) → Bindable t n env p → length t' ≡ length t → (i top : ℕ) → i < length (numbers p) → top ≤ n + i →
+    (4 * (n + i) + 4 ≤ length t') × Small (record { value = Prop (get_or (numbers p) i 0); next = top })
+bound_fits t t' n env p A e i top h g =
+    let r = A.room in
+    let s = A.short in
+    let f = few_taken p.count p.all in
+    let l = all_at (λ q. q < 16384) (numbers p) i 0 A.low h in
+    (omega arith, record { value = omega arith; next = omega arith })
 
 -- what is bound stands on the chain, and what was bound before is kept
 

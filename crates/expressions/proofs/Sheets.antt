@@ -10,7 +10,7 @@ use Rattle.records.specs.Rows.{flat}
 use Rattle.records.specs.Reading.{Tables, reading}
 use Rattle.records.proofs.Tables.{Wide, flat_long}
 use Rattle.reader.specs.declared.Counts.{Counts}
-use Rattle.reader.specs.declared.SheetRead.TheVariants.{Read}
+use Rattle.std.specs.Prelude.{Ok}
 use Rattle.reader.specs.Buffers.{Holds}
 use Rattle.reader.specs.Laid.{Laid}
 use Rattle.reader.proofs.Laying.{laid, patterns_wide, phrases_wide}
@@ -33,7 +33,7 @@ held width rows d t h e l =
     laid width rows h d t e (omega arith)
 
 -- what reading leaves, and so much of the budget
-module _ (s : List ℕ) (c : Counts) (ns₀ fs₀ ps₀ hs₀ bs₀ ns fs ps hs bs binds : List ℕ) (remaining : ℕ) (L : Laid s (Read c) ns₀ fs₀ ps₀ hs₀ bs₀ ns fs ps hs bs)
+module _ (s : List ℕ) (c : Counts) (ns₀ fs₀ ps₀ hs₀ bs₀ ns fs ps hs bs binds : List ℕ) (remaining : ℕ) (L : Laid s (Ok c) ns₀ fs₀ ps₀ hs₀ bs₀ ns fs ps hs bs)
     (hs-kept : length hs ≡ length hs₀) (ps-kept : length ps ≡ length ps₀) (hs-short : length hs ≤ 16384) (ps-short : length ps ≤ 16384) where
   pub ready_sheet : 514 + 4 * remaining ≤ length fs → length fs ≤ 16384 → 16 * remaining ≤ length binds → length binds ≤ 16384 →
       (k : ℕ) → k < c.phrases → kind hs k < 16 → Ready (shared hs ps) (mk fs binds (counters c.words 0 remaining)) 0 k 0 0

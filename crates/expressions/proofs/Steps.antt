@@ -1,4 +1,5 @@
 -- Entering, expressions that run no other, and let: one law for each return. What the callees ensure and the tests say gives the language's answer.
+use Rattle.std.specs.Prelude.{Option, Some, None, Result, Ok}
 use mathlib.Core.Path.{◌≡◌, refl, sym, ap, subst, ◌∙◌}
 use mathlib.Core.Bool.{true, false}
 use mathlib.Core.List.{List, ◌++◌}
@@ -8,6 +9,7 @@ use native.Mathlib.Numerals.{sub-one}
 use lib.ListN.{length}
 use lib.Seq.{sets}
 use Rattle.language.specs.Refusals.{budget_spent, too_deep as too_deep_number}
+use Rattle.language.specs.declared.refusal.Refusal.{Refusal}
 use Rattle.language.specs.Form.{Form}
 use Rattle.language.specs.Syntax.{Sort, function, method, Phrase, Expression, expr, phrase_at}
 use Rattle.language.specs.Values.{Val, form, con_v, rule_v, closure, Env, ◌▸◌, Out, out, stop, next, lookup}
@@ -16,13 +18,10 @@ use Rattle.forms.specs.Table.{tree, Table}
 use Rattle.records.specs.Rows.{cell, sort_of, sort_by}
 use Rattle.bindings.specs.declared.Value.{Value}
 use Rattle.bindings.specs.declared.Value.TheVariants.{Prop, Constructor, Rule}
-use Rattle.bindings.specs.declared.Found.{Found}
-use Rattle.bindings.specs.declared.Found.TheVariants.{Bound, Free}
 use Rattle.bindings.specs.Numbers.{closure_of, numbers_of, Small, found}
 use Rattle.bindings.specs.Stands.{kind_of_sort, closed, Written, Stands, Chain, Looks, Linked}
 use Rattle.bindings.proofs.Chains.{looked, chain_low, stands_small, pushed, fixed}
-use Rattle.expressions.specs.declared.Outcome.{Outcome}
-use Rattle.expressions.specs.declared.Outcome.TheVariants.{Done}
+use Rattle.expressions.specs.declared.State.{State}
 use Rattle.expressions.specs.Machine.{Shared, M, MOut, done, refused, out_of, counters, spent, kind, one, two, selfed, variable_of}
 use Rattle.expressions.specs.Asked.{Text, Row, World, Ready}
 use Rattle.expressions.specs.Meets.{Meets, Evaluated, Stepped}
@@ -90,14 +89,14 @@ module _ (s : Shared) (d env k : ℕ) (m : M) where
         (step_is x.phrases (evaluate x.phrases d) e k m.st.remaining.0 _ (says_rule x fs s m w k r.0 (sym g ∙ z)));
   }
 
-  variable_by : (rows : List (List ℕ)) (fs : List Form) (w : ℕ) → m.st.remaining.0 ≡ w → Table (used m) fs → (r : Found) (q : Out Val) → Looks rows fs m.binds m.st.bindings r q k w → Meets 4 4 rows m fs (out_of m.forms m.binds (variable_of k m.st r)) q
+  variable_by : (rows : List (List ℕ)) (fs : List Form) (w : ℕ) → m.st.remaining.0 ≡ w → Table (used m) fs → (r : Option Value) (q : Out Val) → Looks rows fs m.binds m.st.bindings r q k w → Meets 4 4 rows m fs (out_of m.forms m.binds (variable_of k m.st r)) q
   unfolding Looks variable_of Meets
-  variable_by rows fs w g t (Bound v) (out X w') z = given 4 4 rows m fs X v (out X w') t z.0 (ap (out X) (z.1 ∙ sym g))
-  variable_by rows fs w g t (Bound v) (stop n y) z = z
-  variable_by rows fs w g t Free (out X w') z = z
-  variable_by rows fs w g t Free (stop n y) z = (sym z.0, sym z.1)
+  variable_by rows fs w g t (Some v) (out X w') z = given 4 4 rows m fs X v (out X w') t z.0 (ap (out X) (z.1 ∙ sym g))
+  variable_by rows fs w g t (Some v) (stop n y) z = z
+  variable_by rows fs w g t None (out X w') z = z
+  variable_by rows fs w g t None (stop n y) z = (sym z.0, sym z.1)
 
-  pub variable_is : (c a : ℕ) (o : Outcome) → c ≡ kind s.phrases k → a ≡ one s.phrases k → c ≡ 1 → o ≡ variable_of k m.st (found m.binds env a) → Stepped s d env k m (out_of m.forms m.binds o)
+  pub variable_is : (c a : ℕ) (o : Result (Value × State) Refusal) → c ≡ kind s.phrases k → a ≡ one s.phrases k → c ≡ 1 → o ≡ variable_of k m.st (found m.binds env a) → Stepped s d env k m (out_of m.forms m.binds o)
   unfolding evaluated
   variable_is c a o g i z j = record {
     meets = λ x fs e w r ch.
@@ -142,9 +141,9 @@ module _ (s : Shared) (d env k : ℕ) (m : M) where
         (step_is x.phrases (evaluate x.phrases d) e k m.st.remaining.0 _ (says_closure x fs s m w k r.0 S (sym g ∙ q))));
   }
 
-  pub fix_is : (c a : ℕ) (o : Outcome) (b : List ℕ) → c ≡ kind s.phrases k → a ≡ one s.phrases k → c ≡ 8 → 4 * m.st.bindings + 4 ≤ length m.binds
-      → o ≡ Done (selfed s.phrases a m.st.bindings) (counters m.st.props (m.st.bindings + 1) m.st.remaining.0)
-      → b ≡ sets m.binds (4 * m.st.bindings) (numbers_of (selfed s.phrases a m.st.bindings) env) → Stepped s d env k m (out_of m.forms b o)
+  pub fix_is : (c a : ℕ) (o : Value × State) (b : List ℕ) → c ≡ kind s.phrases k → a ≡ one s.phrases k → c ≡ 8 → 4 * m.st.bindings + 4 ≤ length m.binds
+      → o ≡ (selfed s.phrases a m.st.bindings, counters m.st.props (m.st.bindings + 1) m.st.remaining.0)
+      → b ≡ sets m.binds (4 * m.st.bindings) (numbers_of (selfed s.phrases a m.st.bindings) env) → Stepped s d env k m (out_of m.forms b (Ok o))
   unfolding evaluated
   fix_is c a o b g i z room j l = record {
     meets = λ x fs e w r ch.

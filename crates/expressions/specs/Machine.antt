@@ -1,24 +1,18 @@
 -- The state of a run as one value, answers with what they leave, and what the smallest functions give.
-use Rattle.std.specs.Prelude.{◌≡◌, List, [], ◌∷◌, ℕ, zero, suc, ◌+◌, ◌*◌, ◌-◌, get_or}
+use Rattle.std.specs.Prelude.{◌≡◌, List, [], ◌∷◌, ℕ, zero, suc, ◌+◌, ◌*◌, ◌-◌, get_or, Option, Some, None, Result, Ok, Err}
 use Rattle.std.proofs.lemmas.List.Edits.{sets}
-use Rattle.language.specs.Refusals.{no_binding}
+use Rattle.language.specs.Numbered.{number_of}
+use Rattle.language.specs.declared.refusal.Refusal.{Refusal}
+use Rattle.language.specs.declared.refusal.Why.TheVariants.{NoBinding}
 use Rattle.forms.specs.Word.{word}
 use Rattle.forms.specs.Interned.{Interned}
 use Rattle.forms.specs.declared.Formed.{Formed}
 use Rattle.records.specs.Rows.{sort_of}
 use Rattle.bindings.specs.declared.Value.{Value}
 use Rattle.bindings.specs.declared.Value.TheVariants.{Prop, Constructor, Rule, Function, Method}
-use Rattle.bindings.specs.declared.Found.{Found}
-use Rattle.bindings.specs.declared.Found.TheVariants.{Bound, Free}
 use Rattle.bindings.specs.Numbers.{closure_of, numbers_of}
 use Rattle.bindings.specs.Stands.{closed}
 use Rattle.expressions.specs.declared.State.{State}
-use Rattle.expressions.specs.declared.Listing.{Listing}
-use Rattle.expressions.specs.declared.Listing.TheVariants.{Pushed, Stopped}
-use Rattle.expressions.specs.declared.Piece.{Piece}
-use Rattle.expressions.specs.declared.Piece.TheVariants.{Formed as FormedPiece, Other}
-use Rattle.expressions.specs.declared.Outcome.{Outcome}
-use Rattle.expressions.specs.declared.Outcome.TheVariants.{Done, Refused}
 
 -- the buffers that are only read: phrases and patterns
 pub record Shared : Type 0 where
@@ -49,18 +43,18 @@ pub data MOut : Type 0 where
   done : Value → M → MOut
   refused : ℕ → ℕ → MOut
 
-abbrev pub out_of : List ℕ → List ℕ → Outcome → MOut
-out_of f b (Done v st) = done v (mk f b st)
-out_of f b (Refused x y) = refused x y
+abbrev pub out_of : List ℕ → List ℕ → Result (Value × State) Refusal → MOut
+out_of f b (Ok p) = done p.0 (mk f b p.1)
+out_of f b (Err r) = refused (number_of r.0) r.1
 
 -- the start of a chain of arguments with what it leaves, or a refusal
 pub data MArgs : Type 0 where
   pushed : ℕ → M → MArgs
   stopped : ℕ → ℕ → MArgs
 
-abbrev pub args_of : List ℕ → List ℕ → Listing → MArgs
-args_of f b (Pushed x st) = pushed x (mk f b st)
-args_of f b (Stopped x y) = stopped x y
+abbrev pub args_of : List ℕ → List ℕ → Result (ℕ × State) Refusal → MArgs
+args_of f b (Ok p) = pushed p.0 (mk f b p.1)
+args_of f b (Err r) = stopped (number_of r.0) r.1
 
 -- a phrase's kind and its first two operands, where its row of twelve numbers lies
 abbrev pub kind : List ℕ → ℕ → ℕ
@@ -82,17 +76,17 @@ abbrev pub selfed : List ℕ → ℕ → ℕ → Value
 selfed ph a n = closed (sort_of (kind ph a)) (closure_of a (n + 1))
 
 -- what a variable gives
-unfoldable pub variable_of : ℕ → State → Found → Outcome
-variable_of k st (Bound v) = Done v st
-variable_of k st Free = Refused no_binding k
+unfoldable pub variable_of : ℕ → State → Option Value → Result (Value × State) Refusal
+variable_of k st (Some v) = Ok (v, st)
+variable_of k st None = Err (record { 0 = NoBinding; 1 = k })
 
 -- a value as a part of a proposition
-abbrev pub part_of : Value → Piece
-part_of (Prop p) = FormedPiece p
-part_of (Constructor c) = Other
-part_of (Rule r) = Other
-part_of (Function f) = Other
-part_of (Method f) = Other
+abbrev pub part_of : Value → Option ℕ
+part_of (Prop p) = Some p
+part_of (Constructor c) = None
+part_of (Rule r) = None
+part_of (Function f) = None
+part_of (Method f) = None
 
 -- propositions bound one after another, from binding n on, on the chain env: what the buffer then holds, and where the chain starts
 unfoldable pub chained : List ℕ → ℕ → ℕ → List ℕ → List ℕ
@@ -104,7 +98,7 @@ outermost n env [] = env
 outermost n env (p ∷ ps) = outermost (n + 1) (n + 1) ps
 
 -- the proposition that constructor c makes of p and q, formed in the table
-pub record Made (c p q : ℕ) (st : State) (t₀ t : List ℕ) (x : Outcome) : Type 0 where
+pub record Made (c p q : ℕ) (st : State) (t₀ t : List ℕ) (x : Value × State) : Type 0 where
   pub formed : Formed
-  pub outcome : x ≡ Done (Prop formed.at) (counters formed.size st.bindings st.remaining.0)
+  pub outcome : x ≡ (Prop formed.at, counters formed.size st.bindings st.remaining.0)
   pub interned : Interned (word (3 + c) p q) st.props t₀ t formed

@@ -107,13 +107,11 @@ pub fn intern(t: &mut [u32], n: usize, w: usize) -> Formed
 pub fn find(t: &[u32], n: usize, w: usize) -> usize
     ensures { result ≡ position w (take n t.now) }
 {
-    let end = count(t, n);
-    let mut i = 0;
-    while i < end {
+    let end = n.min(t.len());
+    for i in 0..end {
         if words::at(t, i) == w {
             return i;
         }
-        i += 1;
     }
     end
 }
@@ -145,11 +143,4 @@ pub fn right_of(w: usize) -> usize
     ensures { result ≡ right w }
 {
     w / 131072
-}
-
-// How many of the first n words the buffer has.
-fn count(t: &[u32], n: usize) -> usize
-    ensures { result ≡ length (take n t.now) }
-{
-    if n <= t.len() { n } else { t.len() }
 }

@@ -1,23 +1,32 @@
 -- What evaluation and check answer for every input, in document 01's numbers, and what output and scratch hold afterwards.
-use Rattle.std.specs.Prelude.{ℕ, List, [], ◌∷◌, ◌++◌, Bool, true, false, ◌&&◌, length, drop, replicate, leb}
+use Rattle.std.specs.Prelude.{ℕ, List, [], ◌∷◌, ◌++◌, Bool, true, false, ◌&&◌, length, drop, replicate, leb, Result, Ok, Err}
 use Rattle.language.specs.Refusals.{budget_over, scratch_short}
 use Rattle.language.specs.Numbers.{pick}
 use Rattle.language.specs.Answer.{Answer, accepted, refused, answer}
 use Rattle.language.specs.Check.{Verdict, stands, falls, verdict}
-use Rattle.language.specs.declared.Evaluated.{Evaluated}
-use Rattle.language.specs.declared.Evaluated.TheVariants.{Accepted, Refused}
-use Rattle.language.specs.declared.Checked.{Checked}
-use Rattle.language.specs.declared.Checked.TheVariants.{Stands, Falls}
+use Rattle.language.specs.Numbered.{number_of}
+use Rattle.language.specs.declared.refusal.Refusal.{Refusal}
+use Rattle.language.specs.declared.Work.{Work}
+use Rattle.language.specs.declared.Inferences.{Inferences}
+use Rattle.language.specs.declared.Accepted.{Accepted}
+use Rattle.language.specs.declared.Stands.{Stands}
+
+-- the answer of an evaluation that is accepted, and of a certificate that stands
+abbrev pub accepted_with : ℕ → Work → Inferences → Result Accepted Refusal
+accepted_with n w i = Ok (record { length = n; work = w; inferences = i })
+
+abbrev pub stands_with : ℕ → Inferences → Result Stands Refusal
+stands_with k i = Ok (record { conclusion = k; inferences = i })
 
 -- the number and values of each case of an evaluation's answer: 0, certificate length, work, inferences; or number and place
-unfoldable pub evaluated_numbers : Evaluated → List ℕ
-evaluated_numbers (Accepted n w i) = 0 ∷ (n ∷ (w.0 ∷ (i.0 ∷ [])))
-evaluated_numbers (Refused n p) = n ∷ (p ∷ [])
+unfoldable pub evaluated_numbers : Result Accepted Refusal → List ℕ
+evaluated_numbers (Ok a) = 0 ∷ (a.length ∷ (a.work.0 ∷ (a.inferences.0 ∷ [])))
+evaluated_numbers (Err r) = number_of r.0 ∷ (r.1 ∷ [])
 
 -- the number and values of each case of a check's answer: 0, conclusion number, inferences; or number and place
-unfoldable pub checked_numbers : Checked → List ℕ
-checked_numbers (Stands k i) = 0 ∷ (k ∷ (i.0 ∷ []))
-checked_numbers (Falls n p) = n ∷ (p ∷ [])
+unfoldable pub checked_numbers : Result Stands Refusal → List ℕ
+checked_numbers (Ok c) = 0 ∷ (c.conclusion ∷ (c.inferences.0 ∷ []))
+checked_numbers (Err r) = number_of r.0 ∷ (r.1 ∷ [])
 
 -- the fixed lengths of an evaluation's scratch: listing, forms, patterns, phrases, base, bindings, tokens (docs/SCRATCH.md)
 abbrev pub evaluation_lengths : List ℕ

@@ -10,6 +10,8 @@ pub mod node;
 pub mod refusal;
 pub mod rule;
 
+pub use refusal::{Refusal, Why};
+
 // Evaluations begun.
 #[derive(Drop)]
 pub struct Work(pub usize);
@@ -22,18 +24,19 @@ pub struct Remaining(pub usize);
 #[derive(Drop)]
 pub struct Inferences(pub usize);
 
-// What an evaluation answers: the certificate's length, the work and the inferences; or a refusal's number and place.
+// What an accepted evaluation answers: the certificate's length, the work and the inferences.
 #[derive(Drop)]
-pub enum Evaluated {
-    Accepted(usize, Work, Inferences),
-    Refused(usize, usize),
+pub struct Accepted {
+    pub length: usize,
+    pub work: Work,
+    pub inferences: Inferences,
 }
 
-// What a check answers: the conclusion's number and the inferences; or a refusal's number and place.
+// What a check that stands answers: the conclusion's number and the inferences.
 #[derive(Drop)]
-pub enum Checked {
-    Stands(usize, Inferences),
-    Falls(usize, usize),
+pub struct Stands {
+    pub conclusion: usize,
+    pub inferences: Inferences,
 }
 
 // Document 01's argument counts, by the rule's number.

@@ -9,14 +9,7 @@ ghost use Rattle.std.proofs.lemmas.List.Edits.{sets};
 ghost use Rattle.language.specs.Numbers.{number, second, third, groups, from, below};
 ghost use Rattle.numbers.specs.Gotten.{gotten};
 
-use language::refusal;
-
-// A number and the place past it; or a refusal's number and place.
-#[derive(Drop)]
-pub enum Number {
-    Got(usize, usize),
-    Refused(usize, usize),
-}
+use language::{Refusal, Why};
 
 // Lent bytes and a place among them, where a number is to be read.
 #[derive(Drop)]
@@ -26,7 +19,7 @@ pub struct Cursor<'a> {
 }
 
 // The number at a place.
-pub fn read(s: &[u8], at: usize) -> Number
+pub fn read(s: &[u8], at: usize) -> Result<(usize, usize), Refusal>
     ensures { gotten result ≡ number s.now at }
 {
     number_at(cursor_at(s, at))
@@ -47,35 +40,35 @@ pub fn moved<'a>(c: Cursor<'a>, at: usize) -> Cursor<'a>
 }
 
 // The number at the cursor.
-pub fn number_at<'a>(c: Cursor<'a>) -> Number
+pub fn number_at<'a>(c: Cursor<'a>) -> Result<(usize, usize), Refusal>
     ensures { gotten result ≡ number c.entry.src.now c.entry.at }
 {
     first_group(c.src, c.at)
 }
 
 // The number at a place, from low to top; any other is out of range.
-pub fn read_from(s: &[u8], at: usize, low: usize, top: usize) -> Number
+pub fn read_from(s: &[u8], at: usize, low: usize, top: usize) -> Result<(usize, usize), Refusal>
     ensures { gotten result ≡ from low top s.now at }
 {
     number_from(cursor_at(s, at), low, top)
 }
 
 // The number at the cursor, from low to top.
-pub fn number_from<'a>(c: Cursor<'a>, low: usize, top: usize) -> Number
+pub fn number_from<'a>(c: Cursor<'a>, low: usize, top: usize) -> Result<(usize, usize), Refusal>
     ensures { gotten result ≡ from low top c.entry.src.now c.entry.at }
 {
     ranged(c.src, c.at, low, top)
 }
 
 // The reference at a place, below n; any other is a wrong reference.
-pub fn read_below(s: &[u8], at: usize, n: usize) -> Number
+pub fn read_below(s: &[u8], at: usize, n: usize) -> Result<(usize, usize), Refusal>
     ensures { gotten result ≡ below n s.now at }
 {
     number_below(cursor_at(s, at), n)
 }
 
 // The reference at the cursor, below n.
-pub fn number_below<'a>(c: Cursor<'a>, n: usize) -> Number
+pub fn number_below<'a>(c: Cursor<'a>, n: usize) -> Result<(usize, usize), Refusal>
     ensures { gotten result ≡ below n c.entry.src.now c.entry.at }
 {
     referring(c.src, c.at, n)
@@ -113,51 +106,43 @@ pub fn write(out: &mut [u8], at: usize, v: usize) -> usize
 }
 
 // The number whose first group is at a place.
-fn first_group(s: &[u8], at: usize) -> Number
+fn first_group(s: &[u8], at: usize) -> Result<(usize, usize), Refusal>
     ensures { gotten result ≡ number s.now at }
 {
     if at < s.len() {
         let b = wide(s[at]);
         if b < 128 {
-            return Number::Got(b, at + 1);
+            return Ok((b, at + 1));
         }
         return second_group(s, at, b - 128);
     }
-    Number::Refused(refusal::BYTES_END, at)
+    Err(Refusal(Why::BytesEnd, at))
 }
 
 // The number at a place, held to its range.
-fn ranged(s: &[u8], at: usize, low: usize, top: usize) -> Number
+fn ranged(s: &[u8], at: usize, low: usize, top: usize) -> Result<(usize, usize), Refusal>
     ensures { gotten result ≡ from low top s.now at }
 {
-    match first_group(s, at) {
-        Number::Got(v, next) => {
-            if low <= v && v <= top {
-                return Number::Got(v, next);
-            }
-            Number::Refused(refusal::OUT_OF_RANGE, at)
-        }
-        Number::Refused(why, place) => Number::Refused(why, place),
+    let (v, next) = first_group(s, at)?;
+    if low <= v && v <= top {
+        return Ok((v, next));
     }
+    Err(Refusal(Why::OutOfRange, at))
 }
 
 // The number at a place, held below n.
-fn referring(s: &[u8], at: usize, n: usize) -> Number
+fn referring(s: &[u8], at: usize, n: usize) -> Result<(usize, usize), Refusal>
     ensures { gotten result ≡ below n s.now at }
 {
-    match first_group(s, at) {
-        Number::Got(v, next) => {
-            if v < n {
-                return Number::Got(v, next);
-            }
-            Number::Refused(refusal::WRONG_REFERENCE, at)
-        }
-        Number::Refused(why, place) => Number::Refused(why, place),
+    let (v, next) = first_group(s, at)?;
+    if v < n {
+        return Ok((v, next));
     }
+    Err(Refusal(Why::WrongReference, at))
 }
 
 // What follows a first group at a place that gives low and continues.
-fn second_group(s: &[u8], at: usize, low: usize) -> Number
+fn second_group(s: &[u8], at: usize, low: usize) -> Result<(usize, usize), Refusal>
     requires { (at < length s.now) × (low < 128) }
     ensures { gotten result ≡ second s.now at low }
 {
@@ -166,17 +151,17 @@ fn second_group(s: &[u8], at: usize, low: usize) -> Number
         let b = wide(s[i]);
         if b < 128 {
             if 0 < b {
-                return Number::Got(low + 128 * b, at + 2);
+                return Ok((low + 128 * b, at + 2));
             }
-            return Number::Refused(refusal::NOT_SHORTEST, at);
+            return Err(Refusal(Why::NotShortest, at));
         }
         return third_group(s, at, low + 128 * (b - 128));
     }
-    Number::Refused(refusal::BYTES_END, at)
+    Err(Refusal(Why::BytesEnd, at))
 }
 
 // What follows two groups at a place that give low, the second of which continues.
-fn third_group(s: &[u8], at: usize, low: usize) -> Number
+fn third_group(s: &[u8], at: usize, low: usize) -> Result<(usize, usize), Refusal>
     requires { (at + 1 < length s.now) × (low < 16384) }
     ensures { gotten result ≡ third s.now at low }
 {
@@ -185,11 +170,11 @@ fn third_group(s: &[u8], at: usize, low: usize) -> Number
         let b = wide(s[i]);
         let v = low + 16384 * b;
         if 0 < b && b < 128 && v <= 65535 {
-            return Number::Got(v, at + 3);
+            return Ok((v, at + 3));
         }
-        return Number::Refused(refusal::NOT_SHORTEST, at);
+        return Err(Refusal(Why::NotShortest, at));
     }
-    Number::Refused(refusal::BYTES_END, at)
+    Err(Refusal(Why::BytesEnd, at))
 }
 
 // A byte's number.

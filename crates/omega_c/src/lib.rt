@@ -6,7 +6,7 @@ ghost use Rattle.std.specs.Prelude.{◌≡◌, [], ◌∷◌};
 ghost use Rattle.evaluator.specs.Door.{scratch};
 ghost use Rattle.omega_c.specs.Answers.{Evaluation, Check};
 
-use language::{Checked, Evaluated};
+use language::Refusal;
 
 // The evaluation of a sheet: 0 and the certificate's length, the work and the inferences; or a refusal's number, and its place for the length.
 pub fn waxdapple_evaluate(
@@ -29,17 +29,17 @@ pub fn waxdapple_evaluate(
     match evaluator::evaluate(
         sheet, budget, listing, forms, patterns, phrases, base, bindings, tokens, out,
     ) {
-        Evaluated::Accepted(n, w, i) => {
-            *place = n;
-            *work = w.0;
-            *inferences = i.0;
+        Ok(a) => {
+            *place = a.length;
+            *work = a.work.0;
+            *inferences = a.inferences.0;
             0
         }
-        Evaluated::Refused(why, at) => {
+        Err(Refusal(why, at)) => {
             *place = at;
             *work = 0;
             *inferences = 0;
-            why
+            why.number()
         }
     }
 }
@@ -59,15 +59,15 @@ pub fn waxdapple_check(
     ensures { Check sheet.now certificate.now (result ∷ place.new ∷ inferences.new ∷ []) names.old forms.old patterns.old phrases.old base.old names.new forms.new patterns.new phrases.new base.new }
 {
     match checker::check(sheet, certificate, names, forms, patterns, phrases, base) {
-        Checked::Stands(k, i) => {
-            *place = k;
-            *inferences = i.0;
+        Ok(c) => {
+            *place = c.conclusion;
+            *inferences = c.inferences.0;
             0
         }
-        Checked::Falls(why, at) => {
+        Err(Refusal(why, at)) => {
             *place = at;
             *inferences = 0;
-            why
+            why.number()
         }
     }
 }

@@ -1,8 +1,9 @@
 -- Choosing a clause: one law for each return.
+use Rattle.std.specs.Prelude.{Option, Some, None}
 use Prim.Native.Nat.{ℕ, zero, suc, ◌+◌, ◌*◌, ◌-◌, ◌≤◌, ◌<◌}
 use mathlib.Core.Path.{◌≡◌, refl}
 use mathlib.Core.List.{List, ◌∷◌}
-use mathlib.Core.Option.{Option, some, none}
+use mathlib.Core.Option.{Option as Maybe, some, none}
 use native.Mathlib.Omega.{arith}
 use native.Mathlib.Numerals.{sub-one}
 use lib.ListN.{length, get_or, drop}
@@ -14,14 +15,11 @@ use Rattle.language.specs.Patterns.{fits, Choice as ChosenClause, choose, or_els
 use Rattle.forms.specs.Table.{tree}
 use Rattle.records.specs.Rows.{clauses_of}
 use Rattle.patterns.specs.declared.Parts.{Parts}
-use Rattle.patterns.specs.declared.Fit.TheVariants.{Fits, Misses}
-use Rattle.patterns.specs.declared.Choice.{Choice}
-use Rattle.patterns.specs.declared.Choice.TheVariants.{Chosen, Unfit}
 use Rattle.patterns.specs.Parts.{none_bound}
 use Rattle.patterns.specs.Fitting.{Tried, Fitted, FitsSo, Offered, Picked, ChosenSo}
 
 module _ (forms patterns phrases : List ℕ) (from left p : ℕ) where
-  pub none_left : left ≡ 0 → ChosenSo forms patterns phrases from left p Unfit
+  pub none_left : left ≡ 0 → ChosenSo forms patterns phrases from left p None
   unfolding Picked choose clauses_of
   none_left e = record { meets = λ x. rw e tt }
 
@@ -56,12 +54,12 @@ module _ (forms patterns phrases : List ℕ) (from left p : ℕ) where
       let z : from + 0 ≡ from = omega arith in
       rw (get_or-drop from phrases 0 0, get_or-drop from phrases 1 0, drop-drop 2 from phrases, z, sub-one)
 
-  fit_by : (fs : List Form) (a : Pattern) (c : Parts) (k : ℕ) (o : Option (List Form)) (rest : ChosenClause) → binders a ≤ 4 → Fitted fs a none_bound (Fits c) o → Picked fs (Chosen k c) (or_else o k rest)
+  fit_by : (fs : List Form) (a : Pattern) (c : Parts) (k : ℕ) (o : Maybe (List Form)) (rest : ChosenClause) → binders a ≤ 4 → Fitted fs a none_bound (Some c) o → Picked fs (Some (k, c)) (or_else o k rest)
   unfolding Fitted Picked or_else
   fit_by fs a c k none rest l h = absurd h
   fit_by fs a c k (some ps) rest l h = (refl, (h.0, h.1, h.2, (let e = h.3 in omega arith)))
 
-  pub first_fits : (q k : ℕ) (c : Parts) → (left ≡ 0 → ⊥) → q ≡ get_or phrases from 0 → k ≡ get_or phrases (from + 1) 0 → FitsSo forms patterns q p none_bound (Fits c) → ChosenSo forms patterns phrases from left p (Chosen k c)
+  pub first_fits : (q k : ℕ) (c : Parts) → (left ≡ 0 → ⊥) → q ≡ get_or phrases from 0 → k ≡ get_or phrases (from + 1) 0 → FitsSo forms patterns q p none_bound (Some c) → ChosenSo forms patterns phrases from left p (Some (k, c))
   unfolding choose
   first_fits q k c h i j F = record {
     meets = λ x.
@@ -72,12 +70,12 @@ module _ (forms patterns phrases : List ℕ) (from left p : ℕ) where
         (fit_by x.trees (get_or x.qs q any) c k (fits (get_or x.qs q any) (tree x.trees p)) (choose (clauses_of x.qs (left - 1) (drop (from + 2) phrases)) (tree x.trees p)) (omega arith) (F.meets t));
   }
 
-  miss_by : (fs : List Form) (a : Pattern) (k : ℕ) (r : Choice) (o : Option (List Form)) (rest : ChosenClause) → Fitted fs a none_bound Misses o → Picked fs r rest → Picked fs r (or_else o k rest)
+  miss_by : (fs : List Form) (a : Pattern) (k : ℕ) (r : Option (ℕ × Parts)) (o : Maybe (List Form)) (rest : ChosenClause) → Fitted fs a none_bound None o → Picked fs r rest → Picked fs r (or_else o k rest)
   unfolding Fitted or_else
   miss_by fs a k r none rest h g = g
   miss_by fs a k r (some ps) rest h g = absurd h
 
-  pub first_misses : (q : ℕ) (r : Choice) → (left ≡ 0 → ⊥) → q ≡ get_or phrases from 0 → FitsSo forms patterns q p none_bound Misses → ChosenSo forms patterns phrases (from + 2) (left - 1) p r → ChosenSo forms patterns phrases from left p r
+  pub first_misses : (q : ℕ) (r : Option (ℕ × Parts)) → (left ≡ 0 → ⊥) → q ≡ get_or phrases from 0 → FitsSo forms patterns q p none_bound None → ChosenSo forms patterns phrases (from + 2) (left - 1) p r → ChosenSo forms patterns phrases from left p r
   unfolding choose
   first_misses q r h i F G = record {
     meets = λ x.

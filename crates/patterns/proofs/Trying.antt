@@ -1,9 +1,10 @@
 -- Trying a pattern: one law for each return. The row says which pattern it is, the word which proposition, and their parts are tried in turn.
+use Rattle.std.specs.Prelude.{Option, Some, None}
 use Prim.Native.Nat.{ℕ, zero, suc, ◌+◌, ◌*◌, ◌≤◌, ◌<◌}
 use mathlib.Core.Path.{◌≡◌, refl, sym, ap, subst, ◌∙◌}
 use mathlib.Core.Bool.{Bool, true, false}
 use mathlib.Core.List.{List, [], ◌∷◌, ◌++◌, map-append}
-use mathlib.Core.Option.{Option, some, none}
+use mathlib.Core.Option.{Option as Maybe, some, none}
 use native.Mathlib.Omega.{arith}
 use native.Mathlib.Decide.{ℕ_discrete as dec_eq}
 use lib.ListN.{length, get_or, take, length-append}
@@ -20,8 +21,6 @@ use Rattle.records.specs.Rows.{cell, pattern_of, pattern_by}
 use Rattle.theorems.proofs.Lists.{all_append}
 use Rattle.reader.specs.Stands.{PatternRow, any_row, exactly_row, not_row, join_row}
 use Rattle.patterns.specs.declared.Parts.{Parts}
-use Rattle.patterns.specs.declared.Fit.{Fit}
-use Rattle.patterns.specs.declared.Fit.TheVariants.{Fits, Misses}
 use Rattle.patterns.specs.Parts.{with, extend}
 use Rattle.patterns.specs.Fitting.{Named, Tried, Fitted, FitsSo, same_number, exactly_so}
 use Rattle.patterns.proofs.Shapes.{conn_of, joins_by, rec_neg, rec_bin, neg_other, bin_other, neg_same, bin_same}
@@ -208,32 +207,32 @@ module _ (forms patterns : List ℕ) (q p : ℕ) (b : Parts) (k one w kw l : ℕ
           inner forms patterns q p b x one l b o.low (rw jl (o.part (sym jk ∙ s)).1) (omega (arith, r))
 
   -- a shape that is another's, and a left part that misses
-  pub shape_misses : (kw ≡ k + 1 → ⊥) → FitsSo forms patterns q p b Misses
+  pub shape_misses : (kw ≡ k + 1 → ⊥) → FitsSo forms patterns q p b None
   unfolding Fitted
   shape_misses s = record { meets = λ x. go x (dec_eq k 2) }
     where
-      go : (x : Tried forms patterns q p b) → Dec (k ≡ 2) → Fitted x.trees (get_or x.qs q any) b Misses (fits (get_or x.qs q any) (tree x.trees p))
+      go : (x : Tried forms patterns q p b) → Dec (k ≡ 2) → Fitted x.trees (get_or x.qs q any) b None (fits (get_or x.qs q any) (tree x.trees p))
       go x (yes e) = rw ((neg_open forms patterns q p b x one w (sym i ∙ e) i₁ j).other (λ z. s (jk ∙ z ∙ rw e))) tt
       go x (no e) = rw ((bin_open forms patterns q p b x k one (get_or patterns (5 * q + 2) 0) w i k₀ k₁ e i₁ refl j).other (λ z. s (jk ∙ z))) tt
 
-  miss : (fs : List Form) (a a' : Pattern) (o : Option (List Form)) → Fitted fs a b Misses o → Fitted fs a' b Misses o
+  miss : (fs : List Form) (a a' : Pattern) (o : Maybe (List Form)) → Fitted fs a b None o → Fitted fs a' b None o
   unfolding Fitted
   miss fs a a' none h = h
   miss fs a a' (some ps) h = h
 
-  join_misses : (fs : List Form) (a a' : Pattern) (o o' : Option (List Form)) → Fitted fs a b Misses o → Fitted fs a' b Misses (join_fits o o')
+  join_misses : (fs : List Form) (a a' : Pattern) (o o' : Maybe (List Form)) → Fitted fs a b None o → Fitted fs a' b None (join_fits o o')
   unfolding Fitted join_fits
   join_misses fs a a' none o' h = tt
   join_misses fs a a' (some ps) o' h = absurd h
 
-  pub left_misses : kw ≡ k + 1 → FitsSo forms patterns one l b Misses → FitsSo forms patterns q p b Misses
+  pub left_misses : kw ≡ k + 1 → FitsSo forms patterns one l b None → FitsSo forms patterns q p b None
   unfolding binders
   left_misses s F = record { meets = λ x. go x (dec_eq k 2) }
     where
-      F' : FitsSo forms patterns one (left w) b Misses
+      F' : FitsSo forms patterns one (left w) b None
       F' = rw jl at F
 
-      go : (x : Tried forms patterns q p b) → Dec (k ≡ 2) → Fitted x.trees (get_or x.qs q any) b Misses (fits (get_or x.qs q any) (tree x.trees p))
+      go : (x : Tried forms patterns q p b) → Dec (k ≡ 2) → Fitted x.trees (get_or x.qs q any) b None (fits (get_or x.qs q any) (tree x.trees p))
       go x (yes e) =
           let o = neg_open forms patterns q p b x one w (sym i ∙ e) i₁ j in
           let P = o.part (sym jk ∙ s ∙ rw e) in
@@ -249,19 +248,19 @@ module _ (forms patterns : List ℕ) (q p : ℕ) (b : Parts) (k one w kw l : ℕ
           (F'.meets (inner forms patterns q p b x one (left w) b o.low P.1 (omega (arith, r)))))
 
   -- not a pattern: what the part binds
-  fits_on : (fs : List Form) (a a' : Pattern) (c : Parts) (o : Option (List Form)) → binders a ≡ binders a' → Fitted fs a b (Fits c) o → Fitted fs a' b (Fits c) o
+  fits_on : (fs : List Form) (a a' : Pattern) (c : Parts) (o : Maybe (List Form)) → binders a ≡ binders a' → Fitted fs a b (Some c) o → Fitted fs a' b (Some c) o
   unfolding Fitted
   fits_on fs a a' c none e h = h
   fits_on fs a a' c (some ps) e h = (h.0, h.1, h.2, h.3 ∙ e)
 
-  pub neg_fits : (c : Parts) → kw ≡ k + 1 → k ≡ 2 → FitsSo forms patterns one l b (Fits c) → FitsSo forms patterns q p b (Fits c)
+  pub neg_fits : (c : Parts) → kw ≡ k + 1 → k ≡ 2 → FitsSo forms patterns one l b (Some c) → FitsSo forms patterns q p b (Some c)
   unfolding binders
   neg_fits c s e F = record { meets = λ x. go x }
     where
-      F' : FitsSo forms patterns one (left w) b (Fits c)
+      F' : FitsSo forms patterns one (left w) b (Some c)
       F' = rw jl at F
 
-      go : (x : Tried forms patterns q p b) → Fitted x.trees (get_or x.qs q any) b (Fits c) (fits (get_or x.qs q any) (tree x.trees p))
+      go : (x : Tried forms patterns q p b) → Fitted x.trees (get_or x.qs q any) b (Some c) (fits (get_or x.qs q any) (tree x.trees p))
       go x =
           let o = neg_open forms patterns q p b x one w (sym i ∙ e) i₁ j in
           let P = o.part (sym jk ∙ s ∙ rw e) in
@@ -270,17 +269,17 @@ module _ (forms patterns : List ℕ) (q p : ℕ) (b : Parts) (k one w kw l : ℕ
           (F'.meets (inner forms patterns q p b x one (left w) b o.low P.1 r)))
 
   -- two patterns joined: the right part after what the left part binds
-  module _ (two r : ℕ) (i₂ : two ≡ get_or patterns (5 * q + 2) 0) (jr : r ≡ right w) (k₂ : k ≡ 2 → ⊥) (s : kw ≡ k + 1) (c : Parts) (F : FitsSo forms patterns one l b (Fits c)) where
-    left_answer : (x : Tried forms patterns q p b) → Fitted x.trees (get_or x.qs one any) b (Fits c) (fits (get_or x.qs one any) (tree x.trees (left w)))
+  module _ (two r : ℕ) (i₂ : two ≡ get_or patterns (5 * q + 2) 0) (jr : r ≡ right w) (k₂ : k ≡ 2 → ⊥) (s : kw ≡ k + 1) (c : Parts) (F : FitsSo forms patterns one l b (Some c)) where
+    left_answer : (x : Tried forms patterns q p b) → Fitted x.trees (get_or x.qs one any) b (Some c) (fits (get_or x.qs one any) (tree x.trees (left w)))
     unfolding binders
     left_answer x =
         let o = bin_open forms patterns q p b x k one two w i k₀ k₁ k₂ i₁ i₂ j in
         let P = o.part (sym jk ∙ s) in
         let m = room_at forms patterns q p b x (bin_p o.conn (get_or x.qs one any) (get_or x.qs two any)) o.pattern in
-        let F' : FitsSo forms patterns one (left w) b (Fits c) = rw jl at F in
+        let F' : FitsSo forms patterns one (left w) b (Some c) = rw jl at F in
         F'.meets (inner forms patterns q p b x one (left w) b o.low P.1 (omega (arith, m)))
 
-    bound : (fs : List Form) (a : Pattern) (o : Option (List Form)) → Fitted fs a b (Fits c) o → c.count ≡ b.count + binders a
+    bound : (fs : List Form) (a : Pattern) (o : Maybe (List Form)) → Fitted fs a b (Some c) o → c.count ≡ b.count + binders a
     unfolding Fitted
     bound fs a none h = absurd h
     bound fs a (some ps) h = ap (λ (d : Parts). d.count) h.1 ∙ extend_count b h.0 ∙ ap (λ (n : ℕ). b.count + n) h.3
@@ -305,20 +304,20 @@ module _ (forms patterns : List ℕ) (q p : ℕ) (b : Parts) (k one w kw l : ℕ
     pub right_tried : Tried forms patterns q p b → Tried forms patterns two r c
     right_tried x = rw jr (right_inner x)
 
-    join : (fs : List Form) (a a₁ a₂ : Pattern) (o₁ o₂ : Option (List Form)) (f : Fit) → binders a ≡ binders a₁ + binders a₂ → Fitted fs a₁ b (Fits c) o₁ → Fitted fs a₂ c f o₂ → Fitted fs a b f (join_fits o₁ o₂)
+    join : (fs : List Form) (a a₁ a₂ : Pattern) (o₁ o₂ : Maybe (List Form)) (f : Option Parts) → binders a ≡ binders a₁ + binders a₂ → Fitted fs a₁ b (Some c) o₁ → Fitted fs a₂ c f o₂ → Fitted fs a b f (join_fits o₁ o₂)
     unfolding Fitted join_fits
     join fs a a₁ a₂ none o₂ f e h g = absurd h
-    join fs a a₁ a₂ (some xs) none (Fits d) e h g = absurd g
-    join fs a a₁ a₂ (some xs) none Misses e h g = tt
-    join fs a a₁ a₂ (some xs) (some ys) Misses e h g = absurd g
-    join fs a a₁ a₂ (some xs) (some ys) (Fits d) e h g = (
+    join fs a a₁ a₂ (some xs) none (Some d) e h g = absurd g
+    join fs a a₁ a₂ (some xs) none None e h g = tt
+    join fs a a₁ a₂ (some xs) (some ys) None e h g = absurd g
+    join fs a a₁ a₂ (some xs) (some ys) (Some d) e h g = (
       h.0 ++ g.0,
       g.1 ∙ ap (λ (z : Parts). extend z g.0) h.1 ∙ extend_extend b h.0 g.0,
       named_append fs h.0 g.0 xs ys h.2 g.2,
       length-append h.0 g.0 ∙ rw (h.3, g.3, e),
     )
 
-    pub both_fit : (f : Fit) → FitsSo forms patterns two r c f → FitsSo forms patterns q p b f
+    pub both_fit : (f : Option Parts) → FitsSo forms patterns two r c f → FitsSo forms patterns q p b f
     unfolding binders
     both_fit f G = record { meets = λ x. go x }
       where
@@ -342,7 +341,7 @@ module _ (forms patterns : List ℕ) (q p : ℕ) (b : Parts) where
   unfolding binders
   any_room x k i e = let r = room_at forms patterns q p b x any (any_at x (sym i ∙ e)) in omega arith
 
-  pub any_fits : (k : ℕ) (c : Parts) → k ≡ get_or patterns (5 * q) 0 → k ≡ 0 → c ≡ with b p → FitsSo forms patterns q p b (Fits c)
+  pub any_fits : (k : ℕ) (c : Parts) → k ≡ get_or patterns (5 * q) 0 → k ≡ 0 → c ≡ with b p → FitsSo forms patterns q p b (Some c)
   unfolding Fitted fits binders extend
   any_fits k c i e f = record {
     meets = λ x. rw (any_at x (sym i ∙ e)) (p ∷ [], f, record { trees = refl; low = (x.proposition, tt) }, refl);
@@ -353,7 +352,7 @@ module _ (forms patterns : List ℕ) (q p : ℕ) (b : Parts) where
   exact_by fs P true = ([], refl, record { trees = refl; low = tt }, refl)
   exact_by fs P false = tt
 
-  pub exact_fits : (k one : ℕ) (f : Fit) → k ≡ get_or patterns (5 * q) 0 → one ≡ get_or patterns (5 * q + 1) 0 → k ≡ 1 → f ≡ exactly_so one p b → FitsSo forms patterns q p b f
+  pub exact_fits : (k one : ℕ) (f : Option Parts) → k ≡ get_or patterns (5 * q) 0 → one ≡ get_or patterns (5 * q + 1) 0 → k ≡ 1 → f ≡ exactly_so one p b → FitsSo forms patterns q p b f
   unfolding fits pattern_by Operands
   exact_fits k one f i i₁ e g = record {
     meets = λ x.

@@ -1,6 +1,6 @@
 -- What trying a pattern and choosing a clause come to: what the language's `fits` and `choose` give at the trees that the numbers stand for.
-use Rattle.std.specs.Prelude.{ℕ, ◌+◌, ◌*◌, ◌≤◌, ◌<◌, ◌≡◌, Bool, true, false, List, map, length, get_or, take, drop, eqb}
-use Rattle.std.proofs.Math.Option.{Option, some, none}
+use Rattle.std.specs.Prelude.{ℕ, ◌+◌, ◌*◌, ◌≤◌, ◌<◌, ◌≡◌, Bool, true, false, List, map, length, get_or, take, drop, eqb, Option, Some, None}
+use Rattle.std.proofs.Math.Option.{Option as Maybe, some, none}
 use Rattle.language.specs.Form.{Form}
 use Rattle.language.specs.Syntax.{Pattern, any}
 use Rattle.language.specs.Read.{binders}
@@ -11,10 +11,6 @@ use Rattle.theorems.specs.Lists.{All}
 use Rattle.reader.specs.Stands.{PatternRows}
 use Rattle.reader.specs.Buffers.{Holds}
 use Rattle.patterns.specs.declared.Parts.{Parts}
-use Rattle.patterns.specs.declared.Fit.{Fit}
-use Rattle.patterns.specs.declared.Fit.TheVariants.{Fits, Misses}
-use Rattle.patterns.specs.declared.Choice.{Choice}
-use Rattle.patterns.specs.declared.Choice.TheVariants.{Chosen, Unfit}
 use Rattle.patterns.specs.Parts.{none_bound, extend}
 
 -- the first n words of the table stand for the trees fs, and the patterns' rows say the patterns qs
@@ -41,23 +37,23 @@ pub record Tried (forms patterns : List ℕ) (q p : ℕ) (before : Parts) : Type
   pub room : before.count + cell rows q 3 ≤ 4
 
 -- the answer for a pattern a, and what `fits` gives: what is bound names the propositions that `fits` binds
-unfoldable pub Fitted : List Form → Pattern → Parts → Fit → Option (List Form) → Type 0
+unfoldable pub Fitted : List Form → Pattern → Parts → Option Parts → Maybe (List Form) → Type 0
 unfolding extend binders
-Fitted fs a b (Fits c) (some ps) = (ns : List ℕ) × (c ≡ extend b ns) × Named fs ns ps × (length ns ≡ binders a)
-Fitted fs a b (Fits c) none = ⊥
-Fitted fs a b Misses (some ps) = ⊥
-Fitted fs a b Misses none = Unit {0}
+Fitted fs a b (Some c) (some ps) = (ns : List ℕ) × (c ≡ extend b ns) × Named fs ns ps × (length ns ≡ binders a)
+Fitted fs a b (Some c) none = ⊥
+Fitted fs a b None (some ps) = ⊥
+Fitted fs a b None none = Unit {0}
 
-pub record FitsSo (forms patterns : List ℕ) (q p : ℕ) (before : Parts) (r : Fit) : Type 0 where
+pub record FitsSo (forms patterns : List ℕ) (q p : ℕ) (before : Parts) (r : Option Parts) : Type 0 where
   pub meets : (x : Tried forms patterns q p before) →
       Fitted x.trees (get_or x.qs q any) before r (fits (get_or x.qs q any) (tree x.trees p))
 
 -- exactly the proposition q, by number
-unfoldable pub same_number : Bool → Parts → Fit
-same_number true b = Fits b
-same_number false b = Misses
+unfoldable pub same_number : Bool → Parts → Option Parts
+same_number true b = Some b
+same_number false b = None
 
-abbrev pub exactly_so : ℕ → ℕ → Parts → Fit
+abbrev pub exactly_so : ℕ → ℕ → Parts → Option Parts
 exactly_so q p b = same_number (eqb q p) b
 
 -- clauses from a place on, and a proposition
@@ -73,13 +69,13 @@ pub record Offered (forms patterns phrases : List ℕ) (from left p : ℕ) : Typ
   pub short : length phrases ≤ 16384
 
 -- the clause that is chosen, and what `choose` gives
-unfoldable pub Picked : List Form → Choice → ChosenClause → Type 0
+unfoldable pub Picked : List Form → Option (ℕ × Parts) → ChosenClause → Type 0
 unfolding extend
-Picked fs (Chosen k c) (chosen b ps) = (k ≡ b) × ((ns : List ℕ) × (c ≡ extend none_bound ns) × Named fs ns ps × (length ns ≤ 4))
-Picked fs (Chosen k c) unfit = ⊥
-Picked fs Unfit (chosen b ps) = ⊥
-Picked fs Unfit unfit = Unit {0}
+Picked fs (Some (k, c)) (chosen b ps) = (k ≡ b) × ((ns : List ℕ) × (c ≡ extend none_bound ns) × Named fs ns ps × (length ns ≤ 4))
+Picked fs (Some (k, c)) unfit = ⊥
+Picked fs None (chosen b ps) = ⊥
+Picked fs None unfit = Unit {0}
 
-pub record ChosenSo (forms patterns phrases : List ℕ) (from left p : ℕ) (r : Choice) : Type 0 where
+pub record ChosenSo (forms patterns phrases : List ℕ) (from left p : ℕ) (r : Option (ℕ × Parts)) : Type 0 where
   pub meets : (x : Offered forms patterns phrases from left p) →
       Picked x.trees r (choose (clauses_of x.qs left (drop from phrases)) (tree x.trees p))

@@ -17,27 +17,11 @@ const ABOVE: usize = forms::kind::NOT - pattern_kind::NOT;
 #[derive(Clone, Copy)]
 pub struct Parts {
     pub count: usize,
-    pub first: usize,
-    pub second: usize,
-    pub third: usize,
-    pub fourth: usize,
+    pub all: [usize; 4],
 }
 
-// A pattern fits and binds so, or it misses.
-#[derive(Drop)]
-pub enum Fit {
-    Fits(Parts),
-    Misses,
-}
-
-// The body of the clause chosen and what its pattern binds; or no clause fits.
-#[derive(Drop)]
-pub enum Choice {
-    Chosen(usize, Parts),
-    Unfit,
-}
-
-// The first of so many clauses that fits the proposition p. A clause is two numbers, a pattern's and its body's, from a place on.
+// The first of so many clauses that fits the proposition p, if one does: its body, and what its pattern binds.
+// A clause is two numbers, a pattern's and its body's, from a place on.
 pub fn choose(
     forms: &[u32],
     patterns: &[u32],
@@ -45,47 +29,43 @@ pub fn choose(
     from: usize,
     left: usize,
     p: usize,
-) -> Choice
+) -> Option<(usize, Parts)>
     requires { Offered forms.now patterns.now phrases.now from left p }
     ensures { ChosenSo forms.now patterns.now phrases.now from left p result }
 {
     if left == 0 {
-        return Choice::Unfit;
+        return None;
     }
     let q = words::at(phrases, from);
     match tried(forms, patterns, q, p, nothing()) {
-        Fit::Fits(parts) => Choice::Chosen(words::at(phrases, from + 1), parts),
-        Fit::Misses => choose(forms, patterns, phrases, from + 2, left - 1, p),
+        Some(parts) => Some((words::at(phrases, from + 1), parts)),
+        None => choose(forms, patterns, phrases, from + 2, left - 1, p),
     }
 }
 
-// Pattern q tried against the proposition p; what it binds comes after what was bound before.
-pub fn tried(forms: &[u32], patterns: &[u32], q: usize, p: usize, before: Parts) -> Fit
+// Pattern q tried against the proposition p: what it binds, after what was bound before, if it fits.
+pub fn tried(forms: &[u32], patterns: &[u32], q: usize, p: usize, before: Parts) -> Option<Parts>
     requires { Tried forms.now patterns.now q p before }
     ensures { FitsSo forms.now patterns.now q p before result }
 {
     let kind = words::at(patterns, rows::PATTERN * q);
     let one = words::at(patterns, rows::PATTERN * q + 1);
     if kind == pattern_kind::ANY {
-        return Fit::Fits(extended(before, p));
+        return Some(extended(before, p));
     }
     if kind == pattern_kind::EXACTLY {
         return exact(one, p, before);
     }
     let w = words::at(forms, p);
     if forms::kind_of(w) == kind + ABOVE {
-        return match tried(forms, patterns, one, forms::left_of(w), before) {
-            Fit::Fits(parts) => {
-                if kind == pattern_kind::NOT {
-                    return Fit::Fits(parts);
-                }
-                let two = words::at(patterns, rows::PATTERN * q + 2);
-                tried(forms, patterns, two, forms::right_of(w), parts)
-            }
-            Fit::Misses => Fit::Misses,
-        };
+        let parts = tried(forms, patterns, one, forms::left_of(w), before)?;
+        if kind == pattern_kind::NOT {
+            return Some(parts);
+        }
+        let two = words::at(patterns, rows::PATTERN * q + 2);
+        return tried(forms, patterns, two, forms::right_of(w), parts);
     }
-    Fit::Misses
+    None
 }
 
 // Nothing bound.
@@ -94,21 +74,15 @@ pub fn nothing() -> Parts
 {
     Parts {
         count: 0,
-        first: 0,
-        second: 0,
-        third: 0,
-        fourth: 0,
+        all: [0; 4],
     }
 }
 
 // Exactly the proposition q: it fits p where the numbers are equal, and binds nothing.
-fn exact(q: usize, p: usize, before: Parts) -> Fit
+fn exact(q: usize, p: usize, before: Parts) -> Option<Parts>
     ensures { result ≡ exactly_so q p before }
 {
-    if q == p {
-        return Fit::Fits(before);
-    }
-    Fit::Misses
+    if q == p { Some(before) } else { None }
 }
 
 // One proposition more, after those before it. There must be fewer than four.
@@ -116,39 +90,10 @@ fn extended(b: Parts, p: usize) -> Parts
     requires { b.count < 4 }
     ensures { result ≡ with b p }
 {
-    let n = b.count + 1;
-    if b.count == 0 {
-        return Parts {
-            count: n,
-            first: p,
-            second: b.second,
-            third: b.third,
-            fourth: b.fourth,
-        };
-    }
-    if b.count == 1 {
-        return Parts {
-            count: n,
-            first: b.first,
-            second: p,
-            third: b.third,
-            fourth: b.fourth,
-        };
-    }
-    if b.count == 2 {
-        return Parts {
-            count: n,
-            first: b.first,
-            second: b.second,
-            third: p,
-            fourth: b.fourth,
-        };
-    }
+    let mut all = b.all;
+    all[b.count] = p;
     Parts {
-        count: n,
-        first: b.first,
-        second: b.second,
-        third: b.third,
-        fourth: p,
+        count: b.count + 1,
+        all,
     }
 }

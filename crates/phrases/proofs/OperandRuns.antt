@@ -14,8 +14,9 @@ use Rattle.words.specs.Front.{front}
 use Rattle.words.proofs.Fronts.{front_put}
 use Rattle.words.proofs.Runs.{sets_sets, front_run}
 use Rattle.numbers.proofs.Bounds.{not_got, then_got, check_got, below_got, from_got}
-use Rattle.records.specs.declared.Ended.{Ended}
-use Rattle.records.specs.declared.Ended.TheVariants as ended
+use Rattle.std.specs.Prelude.{Result, Ok, Err}
+use Rattle.language.specs.Numbered.{number_of}
+use Rattle.language.specs.declared.refusal.Refusal.{Refusal}
 use Rattle.phrases.specs.declared.shape.Operand.{Operand}
 use Rattle.phrases.specs.declared.shape.Operand.TheVariants as operand
 use Rattle.records.specs.Rows.{cell, flat, phrase_cells}
@@ -158,7 +159,7 @@ module _ {A : Type 0} (X : Run A) where
     at_start = record { done = []; within = omega arith; same = rw sub-zero; stored = rw X.none; long = rw X.none (omega arith); keeps = refl }
 
     module _ (row : List ℕ) (i p : ℕ) (a : At count at row₀ from row i p) where
-      pub at_end : count ≤ i → filled (ended.At p) row ≡ Answer
+      pub at_end : count ≤ i → filled (Ok p) row ≡ Answer
       unfolding then
       at_end h = rw (a.same, all_end count i a.done p h) (ap (λ (t : List ℕ). got t p) a.stored)
 
@@ -182,20 +183,20 @@ module _ {A : Type 0} (X : Run A) where
           }
 
       -- the same of one that stores its numbers itself
-      module _ (r : Ended) (to : ℕ) (row' : List ℕ) (f : filled r row' ≡ then (X.read p) (λ x. got (sets row to (X.one x)))) where
-        pub stored_refused : (why q : ℕ) → i < count → r ≡ ended.Refused why q → no why q ≡ Answer
+      module _ (r : Result ℕ Refusal) (to : ℕ) (row' : List ℕ) (f : filled r row' ≡ then (X.read p) (λ x. got (sets row to (X.one x)))) where
+        pub stored_refused : (x : Refusal) → i < count → r ≡ Err x → no (number_of x.0) x.1 ≡ Answer
         unfolding then
-        stored_refused why q h e =
-            let g : no why q ≡ then (X.read p) (λ x. got (sets row to (X.one x))) = ap (λ (y : Ended). filled y row') (sym e) ∙ f in
-            at_refused why q h (go (X.read p) g)
+        stored_refused x h e =
+            let g : no (number_of x.0) x.1 ≡ then (X.read p) (λ x. got (sets row to (X.one x))) = ap (λ (y : Result ℕ Refusal). filled y row') (sym e) ∙ f in
+            at_refused (number_of x.0) x.1 h (go (number_of x.0) x.1 (X.read p) g)
           where
-            go : (y : Got A) → no why q ≡ then y (λ x. got (sets row to (X.one x))) → y ≡ no why q
-            go (got x m) g = not_got why q (sets row to (X.one x)) m g
-            go (no k z) g = let u : k ≡ why = cc in let v : z ≡ q = cc in rw (u, v)
+            go : (why q : ℕ) (y : Got A) → no why q ≡ then y (λ x. got (sets row to (X.one x))) → y ≡ no why q
+            go why q (got x m) g = not_got why q (sets row to (X.one x)) m g
+            go why q (no k z) g = let u : k ≡ why = cc in let v : z ≡ q = cc in rw (u, v)
 
-        pub stored_more : (next : ℕ) → i < count → r ≡ ended.At next → to ≡ from + X.width * i → At count at row₀ from row' (i + 1) next
+        pub stored_more : (next : ℕ) → i < count → r ≡ Ok next → to ≡ from + X.width * i → At count at row₀ from row' (i + 1) next
         stored_more next h e t =
-            let g : then (X.read p) (λ x. got (sets row to (X.one x))) ≡ got row' next = sym f ∙ ap (λ (y : Ended). filled y row') e in
+            let g : then (X.read p) (λ x. got (sets row to (X.one x))) ≡ got row' next = sym f ∙ ap (λ (y : Result ℕ Refusal). filled y row') e in
             let x = then_got (X.read p) _ row' next g in
             let same : got (sets row to (X.one x.value)) x.place ≡ got row' next = x.rest in
             let k : x.place ≡ next = cc in

@@ -11,22 +11,10 @@ use Rattle.language.specs.Refusals.{out_of_range, wrong_reference}
 use Rattle.language.specs.Numbers.{Got, got, then, check, number, record_at}
 use Rattle.language.specs.Numbers as sheet
 use Rattle.records.proofs.ByKind.{Each, each_at, past}
-use Rattle.phrases.specs.declared.shape.Shape.TheVariants as shape
+use Rattle.std.specs.Prelude.{None}
 use Rattle.records.specs.Rows.{cell, phrase_cells}
 use Rattle.records.specs.Reading.{phrase_row_kinds, phrase_row, row_ref, fixed_row, one_row}
 use Rattle.phrases.specs.Shapes.{operand_at, abstraction_row, shapes, shape_of, shaped_row}
-
--- numbers that are no kinds of a phrase
-pub no_expression : (k : ℕ) → (k ≡ 0 → ⊥) → (k ≡ 1 → ⊥) → (k ≡ 2 → ⊥) → (k ≡ 3 → ⊥) → (k ≡ 4 → ⊥) → (k ≡ 5 → ⊥) → (k ≡ 6 → ⊥) → (k ≡ 7 → ⊥) → (k ≡ 8 → ⊥) → (k ≡ 9 → ⊥)
-    → k < 16 → shape.Nothing ≡ shape_of k
-no_expression k a b c d e f g h i j l =
-    each_at (λ k. shape.Nothing ≡ shape_of k) 10 6 (refl, (refl, (refl, (refl, (refl, (refl, tt)))))) k
-    (past 9 k (past 8 k (past 7 k (past 6 k (past 5 k (past 4 k (past 3 k (past 2 k (past 1 k (past 0 k (omega arith) a) b) c) d) e) f) g) h) i) j) l
-
-pub no_deduction : (k : ℕ) → 16 ≤ k → (k ≡ 16 → ⊥) → (k ≡ 17 → ⊥) → (k ≡ 18 → ⊥) → (k ≡ 19 → ⊥) → (k ≡ 20 → ⊥) → (k ≡ 21 → ⊥) → (k ≡ 22 → ⊥) → shape.Nothing ≡ shape_of k
-no_deduction k l a b c d e f g =
-    let h : 23 ≤ k = past 22 k (past 21 k (past 20 k (past 19 k (past 18 k (past 17 k (past 16 k l a) b) c) d) e) f) g in
-    sym (get_or-eq_default shapes shape.Nothing {n = k} h)
 
 -- a fix is one operand, an earlier function or method
 fix_one : (s : List ℕ) (rows : List (List ℕ)) (a : ℕ) → fixed_row s rows a ≡ one_row 8 (abstraction_row s rows) a
@@ -112,7 +100,7 @@ module _ (s names : List ℕ) (nq : ℕ) (rows : List (List ℕ)) (start a : ℕ
       go (no h) =
           let l : 23 ≤ k = omega arith in
           phrase_none k l
-          ∙ rw (get_or-eq_default shapes shape.Nothing {n = k} l)
+          ∙ rw (get_or-eq_default shapes None {n = k} l)
 
 -- a phrase's row, once its kind is read
 module _ (s names : List ℕ) (nq : ℕ) (rows : List (List ℕ)) (at k next : ℕ) (e : number s at ≡ got k next) where

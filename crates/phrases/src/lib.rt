@@ -14,9 +14,8 @@ ghost use Rattle.records.specs.Reading.{phrase_row, name_ref, expr_row, dedu_row
 ghost use Rattle.phrases.specs.Shapes.{operand_at, abstraction_row, shape_of, shaped_row, Begun};
 ghost use Rattle.records.specs.Answers.{filled, rows_in, Put};
 
-use language::{refusal, rule};
-use numbers::Number;
-use records::{Ended, names, phrase_kind, rows};
+use language::{Refusal, Why, rule};
+use records::{names, phrase_kind, rows};
 use shape::{Operand, Shape};
 
 pub mod shape;
@@ -30,18 +29,14 @@ pub fn read_phrase(
     patterns: usize,
     n: usize,
     at: usize,
-) -> Ended
+) -> Result<usize, Refusal>
     requires { (props ≤ length names.now) × (patterns ≤ 128) × (n < 512) × (6144 ≤ length phrases.old) }
     ensures { Put 12 (phrase_row s.now (take props names.now) patterns (rows_in 12 n phrases.old) at) result (12 * n) phrases.old phrases.new }
 {
     let mut row = [0u32; rows::PHRASE];
-    match phrase_row(&mut row, phrases, names, s, props, patterns, n, at) {
-        Ended::Refused(why, place) => Ended::Refused(why, place),
-        Ended::At(next) => {
-            rows::lay(phrases, &row, rows::PHRASE * n);
-            Ended::At(next)
-        }
-    }
+    let next = phrase_row(&mut row, phrases, names, s, props, patterns, n, at)?;
+    rows::lay(phrases, &row, rows::PHRASE * n);
+    Ok(next)
 }
 
 // The row of the phrase whose record is at a place, over the first names, so many patterns, and the n phrases before it.
@@ -54,20 +49,16 @@ fn phrase_row(
     patterns: usize,
     n: usize,
     at: usize,
-) -> Ended
+) -> Result<usize, Refusal>
     requires row_value { row.old ≡ replicate 12 0 }
     requires props_in_bounds { (props ≤ length names.now) × (patterns ≤ 128) × (n < 512) }
     ensures { filled result row.new ≡ phrase_row s.now (take props names.now) patterns (rows_in 12 n phrases.now) at }
 {
-    match numbers::read(s, at) {
-        Number::Refused(why, place) => Ended::Refused(why, place),
-        Number::Got(kind, next) => {
-            if kind <= phrase_kind::DMATCH {
-                return phrase_of(row, phrases, names, s, props, patterns, n, kind, at, next);
-            }
-            Ended::Refused(refusal::OUT_OF_RANGE, at)
-        }
+    let (kind, next) = numbers::read(s, at)?;
+    if kind <= phrase_kind::DMATCH {
+        return phrase_of(row, phrases, names, s, props, patterns, n, kind, at, next);
     }
+    Err(Refusal(Why::OutOfRange, at))
 }
 
 // The row of a phrase of a kind, whose record began at start and has its operands at another place.
@@ -82,13 +73,15 @@ fn phrase_of(
     kind: usize,
     start: usize,
     at: usize,
-) -> Ended
+) -> Result<usize, Refusal>
     requires row_value { row.old ≡ replicate 12 0 }
     requires props_in_bounds { (props ≤ length names.now) × (patterns ≤ 128) × (n < 512) × (kind ≤ 22) }
     ensures { filled result row.new ≡ shaped_row s.now (take props names.now) patterns (rows_in 12 n phrases.now) start kind (shape_of kind) at }
 {
-    match shape::shape_of(kind) {
-        Shape::Nothing => Ended::Refused(refusal::OUT_OF_RANGE, start),
+    let Some(shape) = shape::shape_of(kind) else {
+        return Err(Refusal(Why::OutOfRange, start));
+    };
+    match shape {
         Shape::Name => name(row, names, s, props, kind, at),
         Shape::One(x) => one(row, phrases, s, n, kind, x, at),
         Shape::Two(x, y) => two(row, phrases, s, n, kind, x, y, at),
@@ -99,19 +92,22 @@ fn phrase_of(
 }
 
 // A kind and a proposition.
-fn name(row: &mut [u32], names: &[u32], s: &[u8], props: usize, kind: usize, at: usize) -> Ended
+fn name(
+    row: &mut [u32],
+    names: &[u32],
+    s: &[u8],
+    props: usize,
+    kind: usize,
+    at: usize,
+) -> Result<usize, Refusal>
     requires row_value { row.old ≡ replicate 12 0 }
     requires props_in_bounds { (props ≤ length names.now) × (kind ≤ 22) }
     ensures { filled result row.new ≡ one_row kind (name_ref s.now (take props names.now)) at }
 {
-    match names::name_ref(names, s, props, at) {
-        Number::Refused(why, place) => Ended::Refused(why, place),
-        Number::Got(p, next) => {
-            words::put(row, 0, kind);
-            words::put(row, 1, p);
-            Ended::At(next)
-        }
-    }
+    let (p, next) = names::name_ref(names, s, props, at)?;
+    words::put(row, 0, kind);
+    words::put(row, 1, p);
+    Ok(next)
 }
 
 // A kind and one operand.
@@ -123,19 +119,15 @@ fn one(
     kind: usize,
     what: Operand,
     at: usize,
-) -> Ended
+) -> Result<usize, Refusal>
     requires row_value { row.old ≡ replicate 12 0 }
     requires n_bound { (n < 512) × (kind ≤ 22) }
     ensures { filled result row.new ≡ one_row kind (operand_at s.now (rows_in 12 n phrases.now) what) at }
 {
-    match operand(phrases, s, n, what, at) {
-        Number::Refused(why, place) => Ended::Refused(why, place),
-        Number::Got(x, next) => {
-            words::put(row, 0, kind);
-            words::put(row, 1, x);
-            Ended::At(next)
-        }
-    }
+    let (x, next) = operand(phrases, s, n, what, at)?;
+    words::put(row, 0, kind);
+    words::put(row, 1, x);
+    Ok(next)
 }
 
 // A kind and two operands.
@@ -148,23 +140,17 @@ fn two(
     first: Operand,
     second: Operand,
     at: usize,
-) -> Ended
+) -> Result<usize, Refusal>
     requires row_value { row.old ≡ replicate 12 0 }
     requires n_bound { (n < 512) × (kind ≤ 22) }
     ensures { filled result row.new ≡ pair_row kind (operand_at s.now (rows_in 12 n phrases.now) first) (operand_at s.now (rows_in 12 n phrases.now) second) at }
 {
-    match operand(phrases, s, n, first, at) {
-        Number::Refused(why, place) => Ended::Refused(why, place),
-        Number::Got(x, b) => match operand(phrases, s, n, second, b) {
-            Number::Refused(why, place) => Ended::Refused(why, place),
-            Number::Got(y, next) => {
-                words::put(row, 0, kind);
-                words::put(row, 1, x);
-                words::put(row, 2, y);
-                Ended::At(next)
-            }
-        },
-    }
+    let (x, b) = operand(phrases, s, n, first, at)?;
+    let (y, next) = operand(phrases, s, n, second, b)?;
+    words::put(row, 0, kind);
+    words::put(row, 1, x);
+    words::put(row, 2, y);
+    Ok(next)
 }
 
 // A kind, an expression, and a count of arguments with the arguments.
@@ -176,23 +162,26 @@ fn call(
     kind: usize,
     what: Operand,
     at: usize,
-) -> Ended
+) -> Result<usize, Refusal>
     requires row_value { row.old ≡ replicate 12 0 }
     requires n_bound { (n < 512) × (kind ≤ 22) }
     ensures { filled result row.new ≡ then (operand_at s.now (rows_in 12 n phrases.now) Expression at) (λ e. several_row s.now 0 4 (kind ∷ (e ∷ [])) (operand_at s.now (rows_in 12 n phrases.now) what)) }
 {
-    match operand(phrases, s, n, Operand::Expression, at) {
-        Number::Refused(why, place) => Ended::Refused(why, place),
-        Number::Got(e, next) => {
-            words::put(row, 0, kind);
-            words::put(row, 1, e);
-            several(row, phrases, s, n, 2, 0, 4, what, next)
-        }
-    }
+    let (e, next) = operand(phrases, s, n, Operand::Expression, at)?;
+    words::put(row, 0, kind);
+    words::put(row, 1, e);
+    several(row, phrases, s, n, 2, 0, 4, what, next)
 }
 
 // A kind and a count of deductions with the deductions.
-fn block(row: &mut [u32], phrases: &[u32], s: &[u8], n: usize, kind: usize, at: usize) -> Ended
+fn block(
+    row: &mut [u32],
+    phrases: &[u32],
+    s: &[u8],
+    n: usize,
+    kind: usize,
+    at: usize,
+) -> Result<usize, Refusal>
     requires row_value { row.old ≡ replicate 12 0 }
     requires n_bound { (n < 512) × (kind ≤ 22) }
     ensures { filled result row.new ≡ several_row s.now 1 8 (kind ∷ []) (operand_at s.now (rows_in 12 n phrases.now) Deduction) at }
@@ -212,19 +201,15 @@ fn cases(
     first: Operand,
     body: Operand,
     at: usize,
-) -> Ended
+) -> Result<usize, Refusal>
     requires row_value { row.old ≡ replicate 12 0 }
     requires patterns_bound { (patterns ≤ 128) × (n < 512) × (kind ≤ 22) }
     ensures { filled result row.new ≡ then (operand_at s.now (rows_in 12 n phrases.now) first at) (λ e. clauses_row s.now patterns (kind ∷ (e ∷ [])) (operand_at s.now (rows_in 12 n phrases.now) body)) }
 {
-    match operand(phrases, s, n, first, at) {
-        Number::Refused(why, place) => Ended::Refused(why, place),
-        Number::Got(e, next) => {
-            words::put(row, 0, kind);
-            words::put(row, 1, e);
-            clauses(row, phrases, s, n, patterns, 2, body, next)
-        }
-    }
+    let (e, next) = operand(phrases, s, n, first, at)?;
+    words::put(row, 0, kind);
+    words::put(row, 1, e);
+    clauses(row, phrases, s, n, patterns, 2, body, next)
 }
 
 // A count from low to top and that many operands, behind the m numbers that the row has.
@@ -238,18 +223,14 @@ fn several(
     top: usize,
     what: Operand,
     at: usize,
-) -> Ended
+) -> Result<usize, Refusal>
     requires begun { Begun m row.old }
     requires n_bound { (n < 512) × (m + top < 12) }
     ensures { filled result row.new ≡ several_row s.now low top (take m row.old) (operand_at s.now (rows_in 12 n phrases.now) what) at }
 {
-    match numbers::read_from(s, at, low, top) {
-        Number::Refused(why, place) => Ended::Refused(why, place),
-        Number::Got(count, next) => {
-            words::put(row, m, count);
-            operands(row, phrases, s, n, m + 1, count, what, next)
-        }
-    }
+    let (count, next) = numbers::read_from(s, at, low, top)?;
+    words::put(row, m, count);
+    operands(row, phrases, s, n, m + 1, count, what, next)
 }
 
 // A count of clauses and the clauses, behind the m numbers that the row has.
@@ -262,18 +243,14 @@ fn clauses(
     m: usize,
     body: Operand,
     at: usize,
-) -> Ended
+) -> Result<usize, Refusal>
     requires begun { Begun m row.old }
     requires patterns_bound { (patterns ≤ 128) × (n < 512) × (m ≤ 3) }
     ensures { filled result row.new ≡ clauses_row s.now patterns (take m row.old) (operand_at s.now (rows_in 12 n phrases.now) body) at }
 {
-    match numbers::read_from(s, at, 1, 4) {
-        Number::Refused(why, place) => Ended::Refused(why, place),
-        Number::Got(count, next) => {
-            words::put(row, m, count);
-            clause_list(row, phrases, s, n, patterns, m + 1, count, body, next)
-        }
-    }
+    let (count, next) = numbers::read_from(s, at, 1, 4)?;
+    words::put(row, m, count);
+    clause_list(row, phrases, s, n, patterns, m + 1, count, body, next)
 }
 
 // So many operands, stored from a place of the row on.
@@ -286,25 +263,17 @@ fn operands(
     count: usize,
     what: Operand,
     at: usize,
-) -> Ended
+) -> Result<usize, Refusal>
     requires { (n < 512) × (from + count ≤ 12) }
     ensures { filled result row.new ≡ then (times count (λ acc. operand_at s.now (rows_in 12 n phrases.now) what) [] at) (λ xs. got (sets row.old from xs)) }
 {
-    let mut i = 0;
     let mut p = at;
-    while i < count {
-        match operand(phrases, s, n, what, p) {
-            Number::Refused(why, place) => {
-                return Ended::Refused(why, place);
-            }
-            Number::Got(x, next) => {
-                words::put(row, from + i, x);
-                p = next;
-            }
-        }
-        i += 1;
+    for i in 0..count {
+        let (x, next) = operand(phrases, s, n, what, p)?;
+        words::put(row, from + i, x);
+        p = next;
     }
-    Ended::At(p)
+    Ok(p)
 }
 
 // So many clauses, stored from a place of the row on.
@@ -318,24 +287,15 @@ fn clause_list(
     count: usize,
     body: Operand,
     at: usize,
-) -> Ended
+) -> Result<usize, Refusal>
     requires { (patterns ≤ 128) × (n < 512) × (from + 2 * count ≤ 12) }
     ensures { filled result row.new ≡ then (times count (λ acc. clause_row s.now patterns (operand_at s.now (rows_in 12 n phrases.now) body)) [] at) (λ cs. got (sets row.old from (flat cs))) }
 {
-    let mut i = 0;
     let mut p = at;
-    while i < count {
-        match clause(row, phrases, s, n, patterns, from + 2 * i, body, p) {
-            Ended::Refused(why, place) => {
-                return Ended::Refused(why, place);
-            }
-            Ended::At(next) => {
-                p = next;
-            }
-        }
-        i += 1;
+    for i in 0..count {
+        p = clause(row, phrases, s, n, patterns, from + 2 * i, body, p)?;
     }
-    Ended::At(p)
+    Ok(p)
 }
 
 // A clause, a pattern's number and a phrase's, stored at a place of the row.
@@ -348,25 +308,25 @@ fn clause(
     to: usize,
     body: Operand,
     at: usize,
-) -> Ended
+) -> Result<usize, Refusal>
     requires { (patterns ≤ 128) × (n < 512) × (to < 12) }
     ensures { filled result row.new ≡ then (clause_row s.now patterns (operand_at s.now (rows_in 12 n phrases.now) body) at) (λ c. got (sets row.old to c)) }
 {
-    match numbers::read_below(s, at, patterns) {
-        Number::Refused(why, place) => Ended::Refused(why, place),
-        Number::Got(q, b) => match operand(phrases, s, n, body, b) {
-            Number::Refused(why, place) => Ended::Refused(why, place),
-            Number::Got(k, next) => {
-                words::put(row, to, q);
-                words::put(row, to + 1, k);
-                Ended::At(next)
-            }
-        },
-    }
+    let (q, b) = numbers::read_below(s, at, patterns)?;
+    let (k, next) = operand(phrases, s, n, body, b)?;
+    words::put(row, to, q);
+    words::put(row, to + 1, k);
+    Ok(next)
 }
 
 // The operand at a place, over the n phrases before.
-fn operand(phrases: &[u32], s: &[u8], n: usize, what: Operand, at: usize) -> Number
+fn operand(
+    phrases: &[u32],
+    s: &[u8],
+    n: usize,
+    what: Operand,
+    at: usize,
+) -> Result<(usize, usize), Refusal>
     requires { n < 512 }
     ensures { gotten result ≡ operand_at s.now (rows_in 12 n phrases.now) what at }
 {
@@ -383,55 +343,40 @@ fn operand(phrases: &[u32], s: &[u8], n: usize, what: Operand, at: usize) -> Num
 }
 
 // An earlier expression.
-fn expression(phrases: &[u32], s: &[u8], n: usize, at: usize) -> Number
+fn expression(phrases: &[u32], s: &[u8], n: usize, at: usize) -> Result<(usize, usize), Refusal>
     requires { n < 512 }
     ensures { gotten result ≡ expr_row s.now (rows_in 12 n phrases.now) at }
 {
-    match numbers::read_below(s, at, n) {
-        Number::Refused(why, place) => Number::Refused(why, place),
-        Number::Got(k, next) => {
-            if kind_of(phrases, n, k) < phrase_kind::METHOD_CALL {
-                return Number::Got(k, next);
-            }
-            Number::Refused(refusal::WRONG_REFERENCE, at)
-        }
+    let (k, next) = numbers::read_below(s, at, n)?;
+    if kind_of(phrases, n, k) < phrase_kind::METHOD_CALL {
+        return Ok((k, next));
     }
+    Err(Refusal(Why::WrongReference, at))
 }
 
 // An earlier deduction.
-pub fn deduction(phrases: &[u32], s: &[u8], n: usize, at: usize) -> Number
+pub fn deduction(phrases: &[u32], s: &[u8], n: usize, at: usize) -> Result<(usize, usize), Refusal>
     requires { n ≤ 512 }
     ensures { gotten result ≡ dedu_row s.now (rows_in 12 n phrases.now) at }
 {
-    match numbers::read_below(s, at, n) {
-        Number::Refused(why, place) => Number::Refused(why, place),
-        Number::Got(k, next) => {
-            if phrase_kind::METHOD_CALL <= kind_of(phrases, n, k) {
-                return Number::Got(k, next);
-            }
-            Number::Refused(refusal::WRONG_REFERENCE, at)
-        }
+    let (k, next) = numbers::read_below(s, at, n)?;
+    if phrase_kind::METHOD_CALL <= kind_of(phrases, n, k) {
+        return Ok((k, next));
     }
+    Err(Refusal(Why::WrongReference, at))
 }
 
 // An earlier function or method.
-fn abstraction(phrases: &[u32], s: &[u8], n: usize, at: usize) -> Number
+fn abstraction(phrases: &[u32], s: &[u8], n: usize, at: usize) -> Result<(usize, usize), Refusal>
     requires { n < 512 }
     ensures { gotten result ≡ abstraction_row s.now (rows_in 12 n phrases.now) at }
 {
-    match numbers::read_below(s, at, n) {
-        Number::Refused(why, place) => Number::Refused(why, place),
-        Number::Got(k, next) => {
-            let kind = kind_of(phrases, n, k);
-            if kind == phrase_kind::FUNCTION {
-                return Number::Got(k, next);
-            }
-            if kind == phrase_kind::METHOD {
-                return Number::Got(k, next);
-            }
-            Number::Refused(refusal::WRONG_REFERENCE, at)
-        }
+    let (k, next) = numbers::read_below(s, at, n)?;
+    let kind = kind_of(phrases, n, k);
+    if kind == phrase_kind::FUNCTION || kind == phrase_kind::METHOD {
+        return Ok((k, next));
     }
+    Err(Refusal(Why::WrongReference, at))
 }
 
 // The kind of phrase k, one of the first n.

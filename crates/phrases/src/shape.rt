@@ -18,10 +18,9 @@ pub enum Operand {
 }
 
 // The operands of a kind: a proposition; one; two; an expression and a count of arguments; a count of deductions; a phrase and a count of
-// clauses. Nothing is for numbers that are no kinds.
+// clauses.
 #[derive(Drop)]
 pub enum Shape {
-    Nothing,
     Name,
     One(Operand),
     Two(Operand, Operand),
@@ -30,31 +29,11 @@ pub enum Shape {
     Match(Operand, Operand),
 }
 
-// The operands of a kind.
-pub fn shape_of(kind: usize) -> Shape
+// The operands of a kind; none for a number that is no kind.
+pub fn shape_of(kind: usize) -> Option<Shape>
     ensures { result ≡ shape_of kind }
 {
-    if kind < phrase_kind::METHOD_CALL {
-        return shape_of_expression(kind);
-    }
-    match kind {
-        phrase_kind::METHOD_CALL => Shape::Call(Operand::Phrase),
-        phrase_kind::ASSUME => Shape::Two(Operand::Expression, Operand::Deduction),
-        phrase_kind::SUPPOSE => Shape::Two(Operand::Expression, Operand::Deduction),
-        phrase_kind::DLET => Shape::Two(Operand::Phrase, Operand::Deduction),
-        phrase_kind::BY => Shape::Two(Operand::Expression, Operand::Deduction),
-        phrase_kind::BLOCK => Shape::Block,
-        phrase_kind::DMATCH => Shape::Match(Operand::Phrase, Operand::Deduction),
-        _ => Shape::Nothing,
-    }
-}
-
-// The operands of a kind below 16.
-fn shape_of_expression(kind: usize) -> Shape
-    requires { kind < 16 }
-    ensures { result ≡ shape_of kind }
-{
-    match kind {
+    let shape = match kind {
         phrase_kind::PROPOSITION => Shape::Name,
         phrase_kind::VARIABLE => Shape::One(Operand::Variable),
         phrase_kind::CONSTRUCTOR => Shape::One(Operand::Constructor),
@@ -65,6 +44,14 @@ fn shape_of_expression(kind: usize) -> Shape
         phrase_kind::LET => Shape::Two(Operand::Expression, Operand::Expression),
         phrase_kind::FIX => Shape::One(Operand::Abstraction),
         phrase_kind::MATCH => Shape::Match(Operand::Expression, Operand::Expression),
-        _ => Shape::Nothing,
-    }
+        phrase_kind::METHOD_CALL => Shape::Call(Operand::Phrase),
+        phrase_kind::ASSUME => Shape::Two(Operand::Expression, Operand::Deduction),
+        phrase_kind::SUPPOSE => Shape::Two(Operand::Expression, Operand::Deduction),
+        phrase_kind::DLET => Shape::Two(Operand::Phrase, Operand::Deduction),
+        phrase_kind::BY => Shape::Two(Operand::Expression, Operand::Deduction),
+        phrase_kind::BLOCK => Shape::Block,
+        phrase_kind::DMATCH => Shape::Match(Operand::Phrase, Operand::Deduction),
+        _ => return None,
+    };
+    Some(shape)
 }

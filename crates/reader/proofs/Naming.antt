@@ -17,7 +17,9 @@ use Rattle.forms.specs.declared.Formed.{Formed}
 use Rattle.forms.specs.Interned.{position, choose, having, first, Interned}
 use Rattle.forms.proofs.Positions.{position_le, having_paid}
 use Rattle.reader.specs.declared.Named.{Named}
-use Rattle.records.specs.declared.Ended.TheVariants as ended
+use Rattle.std.specs.Prelude.{Result, Ok, Err}
+use Rattle.language.specs.Numbered.{number_of}
+use Rattle.language.specs.declared.refusal.Refusal.{Refusal}
 use Rattle.records.specs.Reading.{Props, named, naming, word_at}
 use Rattle.reader.specs.Parts.{named_after, part_one}
 use Rattle.records.specs.Answers.{ends, Names}
@@ -122,13 +124,13 @@ module _ (s : List ℕ) (count words at : ℕ) (names₀ forms₀ : List ℕ) (r
         let l = a.forms_long in
         omega (arith, room.forms)
 
-    pub at_end : count ≤ i → Propositions (naming s count [] (take words forms₀) at) (record { props = i; words = used; ended = ended.At p }) names₀ forms₀ names forms
-    at_end h = answered _ a.done a.ws _ names₀ forms₀ names forms (a.same ∙ naming_end s count i a.done a.ws p h) (sym a.long) (sym a.in_use) a.names_are a.forms_are
+    pub at_end : count ≤ i → Propositions (naming s count [] (take words forms₀) at) (record { props = count; words = used; ended = Ok p }) names₀ forms₀ names forms
+    at_end h = answered _ a.done a.ws _ names₀ forms₀ names forms (a.same ∙ naming_end s count i a.done a.ws p h) (let l = a.long in let k = a.within in omega arith) (sym a.in_use) a.names_are a.forms_are
 
-    pub at_refused : (why q : ℕ) → i < count → word_at s (take i names) p ≡ no why q → Propositions (naming s count [] (take words forms₀) at) (record { props = i; words = used; ended = ended.Refused why q }) names₀ forms₀ names forms
-    at_refused why q h e =
+    pub at_refused : (err : Refusal) → i < count → word_at s (take i names) p ≡ no (number_of err.0) err.1 → Propositions (naming s count [] (take words forms₀) at) (record { props = i; words = used; ended = Err err }) names₀ forms₀ names forms
+    at_refused err h e =
         let f = rw known at e in
-        answered _ a.done a.ws _ names₀ forms₀ names forms (a.same ∙ naming_no s count i a.done a.ws p why q h f) (sym a.long) (sym a.in_use) a.names_are a.forms_are
+        answered _ a.done a.ws _ names₀ forms₀ names forms (a.same ∙ naming_no s count i a.done a.ws p (number_of err.0) err.1 h f) (sym a.long) (sym a.in_use) a.names_are a.forms_are
 
     pub at_more : (w next : ℕ) (forms' : List ℕ) (r : Formed) → i < count → word_at s (take i names) p ≡ got w next → Interned w used forms forms' r
         → At s count words at names₀ forms₀ (set names i r.at) forms' (i + 1) r.size next
@@ -187,9 +189,9 @@ module _ (s ns₀ fs₀ fs₁ : List ℕ) (fs-long : 514 ≤ length fs₀) (begu
       let l = fresh_long in
       record { names = omega arith; words = omega arith; forms = omega arith }
 
-  pub part_refused : (words why q : ℕ) → words ≡ length first → from 0 512 s 0 ≡ no why q → Propositions (part_one s) (record { props = 0; words = words; ended = ended.Refused why q }) ns₀ fs₀ ns₀ fs₁
+  pub part_refused : (words : ℕ) (err : Refusal) → words ≡ length first → from 0 512 s 0 ≡ no (number_of err.0) err.1 → Propositions (part_one s) (record { props = 0; words = words; ended = Err err }) ns₀ fs₀ ns₀ fs₁
   unfolding part_one named_after
-  part_refused words why q w e = rw e (record { props = refl; words = w; ended = refl; names = refl; forms = fresh })
+  part_refused words err w e = rw e (record { props = refl; words = w; ended = refl; names = refl; forms = fresh })
 
   pub part_read : (words count next : ℕ) (r : Named) (ns fs : List ℕ) → words ≡ length first → from 0 512 s 0 ≡ got count next
       → Propositions (naming s count [] (take words fs₁) next) r ns₀ fs₁ ns fs → Propositions (part_one s) r ns₀ fs₀ ns fs

@@ -8,11 +8,11 @@ use Rattle.language.specs.Numbers.{Got, got, no, from}
 use Rattle.records.proofs.Tables.{rows_long}
 use Rattle.words.proofs.Fronts.{take_front}
 use Rattle.forms.specs.Interned.{first}
-use Rattle.records.specs.declared.Ended.{Ended}
-use Rattle.records.specs.declared.Ended.TheVariants as ended
+use Rattle.std.specs.Prelude.{Result, Ok, Err}
+use Rattle.language.specs.Numbered.{number_of, numbered}
+use Rattle.language.specs.declared.refusal.Refusal.{Refusal}
+use Rattle.reader.specs.declared.Counts.{Counts}
 use Rattle.reader.specs.declared.Named.{Named}
-use Rattle.reader.specs.declared.SheetRead.{SheetRead}
-use Rattle.reader.specs.declared.SheetRead.TheVariants as sheet_read
 use Rattle.reader.specs.declared.parts.Listed.{Listed}
 use Rattle.records.specs.Rows.{flat}
 use Rattle.records.specs.Reading.{Kept, Tables, Reading, naming, keeping, name_ref, pattern_row, phrase_row, onward, root_at, after_base, after_phrases, after_patterns, after_props, reading}
@@ -49,10 +49,10 @@ patterns_have Q s T K q =
     phrases_have Q s U (keeping (phrase_row s T.names (length K.items)) nf [] b) (λ bs. q (keeping (phrase_row s T.names (length K.items)) nf [] b).items bs)))
 
 -- where a part ended
-ended_no : (e : Ended) (g : Got (Unit {0})) (why q : ℕ) → e ≡ ended.Refused why q → ends e ≡ g → g ≡ no why q
-ended_no e g why q r f = sym f ∙ ap ends r
+ended_no : (e : Result ℕ Refusal) (g : Got (Unit {0})) (err : Refusal) → e ≡ Err err → ends e ≡ g → g ≡ no (number_of err.0) err.1
+ended_no e g err r f = sym f ∙ ap ends r
 
-ended_at : (e : Ended) (g : Got (Unit {0})) (next : ℕ) → e ≡ ended.At next → ends e ≡ g → g ≡ got tt next
+ended_at : (e : Result ℕ Refusal) (g : Got (Unit {0})) (next : ℕ) → e ≡ Ok next → ends e ≡ g → g ≡ got tt next
 ended_at e g next r f = sym f ∙ ap ends r
 
 -- parts 4 and 5
@@ -63,21 +63,21 @@ module _ (s : List ℕ) (T : Tables) (at : ℕ) (bs₀ bs : List ℕ) (b : Liste
   abbrev W : Tables
   W = tables T T.patterns T.phrases B.items
 
-  ending : (g : Got ℕ) (r : SheetRead) → after_base s T B ≡ record { tables = W; root = g } → r ≡ counted W g → FromBase (after_base s T B) r bs₀ bs
+  ending : (g : Got ℕ) (r : Result Counts Refusal) → after_base s T B ≡ record { tables = W; root = g } → numbered r ≡ counted W g → FromBase (after_base s T B) r bs₀ bs
   ending g r e a = rw e (record { answered = a; base = G.table })
 
-  pub base_refused : (why q : ℕ) → b.ended ≡ ended.Refused why q → FromBase (after_base s T B) (sheet_read.Refused why q) bs₀ bs
+  pub base_refused : (err : Refusal) → b.ended ≡ Err err → FromBase (after_base s T B) (Err err) bs₀ bs
   unfolding after_base onward counted
-  base_refused why q e =
-      let f = ended_no b.ended B.ended why q e G.ended in
-      ending (no why q) (sheet_read.Refused why q) (rw f) refl
+  base_refused err e =
+      let f = ended_no b.ended B.ended err e G.ended in
+      ending (no (number_of err.0) err.1) (Err err) (rw f) refl
 
-  module _ (next : ℕ) (e : b.ended ≡ ended.At next) (g : Got ℕ) (r : root_at s T.phrases next ≡ g) where
+  module _ (next : ℕ) (e : b.ended ≡ Ok next) (g : Got ℕ) (r : root_at s T.phrases next ≡ g) where
     rooted : after_base s T B ≡ record { tables = W; root = g }
     unfolding after_base onward
     rooted = rw (ended_at b.ended B.ended next e G.ended, r)
 
-    pub root_answered : (x : SheetRead) → x ≡ counted W g → FromBase (after_base s T B) x bs₀ bs
+    pub root_answered : (x : Result Counts Refusal) → numbered x ≡ counted W g → FromBase (after_base s T B) x bs₀ bs
     root_answered x a = ending g x rooted a
 
 -- the same over the names of a buffer
@@ -86,22 +86,22 @@ module _ (s : List ℕ) (T : Tables) (at props words patterns count : ℕ) (ns h
   G' : Gathered (part_four s T.names at) b bs₀ bs
   G' = rw H.names G
 
-  pub from_base_refused : (why q : ℕ) → b.ended ≡ ended.Refused why q → FromBase (after_base s T (part_four s T.names at)) (sheet_read.Refused why q) bs₀ bs
+  pub from_base_refused : (err : Refusal) → b.ended ≡ Err err → FromBase (after_base s T (part_four s T.names at)) (Err err) bs₀ bs
   from_base_refused = base_refused s T at bs₀ bs b G'
 
-  pub from_base_rootless : (next why q : ℕ) → b.ended ≡ ended.At next → root_at s (rows_in 12 count hs) next ≡ no why q
-      → FromBase (after_base s T (part_four s T.names at)) (sheet_read.Refused why q) bs₀ bs
+  pub from_base_rootless : (next : ℕ) (err : Refusal) → b.ended ≡ Ok next → root_at s (rows_in 12 count hs) next ≡ no (number_of err.0) err.1
+      → FromBase (after_base s T (part_four s T.names at)) (Err err) bs₀ bs
   unfolding counted
-  from_base_rootless next why q e r = root_answered s T at bs₀ bs b G' next e (no why q) (rw are r) (sheet_read.Refused why q) refl
+  from_base_rootless next err e r = root_answered s T at bs₀ bs b G' next e (no (number_of err.0) err.1) (rw are r) (Err err) refl
 
-  pub from_base_rooted : (next root end : ℕ) → b.ended ≡ ended.At next → root_at s (rows_in 12 count hs) next ≡ got root end
-      → FromBase (after_base s T (part_four s T.names at)) (sheet_read.Read (record { props = props; words = words; patterns = patterns; phrases = count; base = b.count; root = root })) bs₀ bs
+  pub from_base_rooted : (next root end : ℕ) → b.ended ≡ Ok next → root_at s (rows_in 12 count hs) next ≡ got root end
+      → FromBase (after_base s T (part_four s T.names at)) (Ok (record { props = props; words = words; patterns = patterns; phrases = count; base = b.count; root = root })) bs₀ bs
   unfolding counted
   from_base_rooted next root end e r =
       let h : length T.phrases ≡ count = ap length are ∙ rows_long 12 count hs in
       let c : length (part_four s T.names at).items ≡ b.count = sym G'.count in
       root_answered s T at bs₀ bs b G' next e (got root end) (rw are r)
-      (sheet_read.Read (record { props = props; words = words; patterns = patterns; phrases = count; base = b.count; root = root }))
+      (Ok (record { props = props; words = words; patterns = patterns; phrases = count; base = b.count; root = root }))
       (rw (H.props_many, H.words_many, many, h, c))
 
 -- part 3, and what follows it
@@ -120,17 +120,17 @@ module _ (s : List ℕ) (T : Tables) (at : ℕ) (hs₀ hs bs₀ : List ℕ) (f :
   abbrev with_phrases : Tables
   with_phrases = tables T T.patterns F.items []
 
-  pub phrases_refused : (why q : ℕ) → f.ended ≡ ended.Refused why q → FromPhrases (after_phrases s T F) (sheet_read.Refused why q) hs₀ bs₀ hs bs₀
+  pub phrases_refused : (err : Refusal) → f.ended ≡ Err err → FromPhrases (after_phrases s T F) (Err err) hs₀ bs₀ hs bs₀
   unfolding after_phrases onward counted
-  phrases_refused why q e =
-      let x : after_phrases s T F ≡ record { tables = with_phrases; root = no why q } = rw (ended_no f.ended F.ended why q e L.ended) in
+  phrases_refused err e =
+      let x : after_phrases s T F ≡ record { tables = with_phrases; root = no (number_of err.0) err.1 } = rw (ended_no f.ended F.ended err e L.ended) in
       rw x (record { answered = refl; phrases = L.table; base = refl })
 
-  phrases_on : (next : ℕ) → f.ended ≡ ended.At next → after_phrases s T F ≡ after_base s with_phrases (part_four s T.names next)
+  phrases_on : (next : ℕ) → f.ended ≡ Ok next → after_phrases s T F ≡ after_base s with_phrases (part_four s T.names next)
   unfolding after_phrases onward
   phrases_on next e = rw (ended_at f.ended F.ended next e L.ended) (base_part s with_phrases next refl)
 
-  pub phrases_read : (next : ℕ) (r : SheetRead) (bs : List ℕ) → f.ended ≡ ended.At next → FromBase (after_base s with_phrases (part_four s T.names next)) r bs₀ bs → FromPhrases (after_phrases s T F) r hs₀ bs₀ hs bs
+  pub phrases_read : (next : ℕ) (r : Result Counts Refusal) (bs : List ℕ) → f.ended ≡ Ok next → FromBase (after_base s with_phrases (part_four s T.names next)) r bs₀ bs → FromPhrases (after_phrases s T F) r hs₀ bs₀ hs bs
   phrases_read next r bs e D =
       let X = after_base s with_phrases (part_four s T.names next) in
       let k : X.tables.phrases ≡ F.items = base_has (λ U. U.phrases ≡ F.items) s with_phrases (part_four s T.names next) refl in
@@ -142,10 +142,10 @@ module _ (s : List ℕ) (T : Tables) (at props words patterns : ℕ) (ns hs₀ h
   L' : Listing 12 512 (part_three s T.names (length T.patterns) at) f hs₀ hs
   L' = rw (H.names, many) L
 
-  pub from_phrases_refused : (why q : ℕ) → f.ended ≡ ended.Refused why q → FromPhrases (after_phrases s T (part_three s T.names (length T.patterns) at)) (sheet_read.Refused why q) hs₀ bs₀ hs bs₀
+  pub from_phrases_refused : (err : Refusal) → f.ended ≡ Err err → FromPhrases (after_phrases s T (part_three s T.names (length T.patterns) at)) (Err err) hs₀ bs₀ hs bs₀
   from_phrases_refused = phrases_refused s T at hs₀ hs bs₀ f L'
 
-  pub from_phrases_read : (next : ℕ) (r : SheetRead) (bs : List ℕ) → f.ended ≡ ended.At next
+  pub from_phrases_read : (next : ℕ) (r : Result Counts Refusal) (bs : List ℕ) → f.ended ≡ Ok next
       → ((U : Tables) → ReadSoFar U props words ns → length U.patterns ≡ patterns → U.phrases ≡ rows_in 12 f.count hs → FromBase (after_base s U (part_four s U.names next)) r bs₀ bs)
       → FromPhrases (after_phrases s T (part_three s T.names (length T.patterns) at)) r hs₀ bs₀ hs bs
   from_phrases_read next r bs e D =
@@ -170,17 +170,17 @@ module _ (s : List ℕ) (T : Tables) (at : ℕ) (ps₀ ps hs₀ bs₀ : List ℕ
   abbrev with_patterns : Tables
   with_patterns = tables T Q.items [] []
 
-  pub patterns_refused : (why p : ℕ) → q.ended ≡ ended.Refused why p → FromPatterns (after_patterns s T Q) (sheet_read.Refused why p) ps₀ hs₀ bs₀ ps hs₀ bs₀
+  pub patterns_refused : (err : Refusal) → q.ended ≡ Err err → FromPatterns (after_patterns s T Q) (Err err) ps₀ hs₀ bs₀ ps hs₀ bs₀
   unfolding after_patterns onward counted flat
-  patterns_refused why p e =
-      let x : after_patterns s T Q ≡ record { tables = with_patterns; root = no why p } = rw (ended_no q.ended Q.ended why p e L.ended) in
+  patterns_refused err e =
+      let x : after_patterns s T Q ≡ record { tables = with_patterns; root = no (number_of err.0) err.1 } = rw (ended_no q.ended Q.ended err e L.ended) in
       rw x (record { answered = refl; patterns = L.table; phrases = refl; base = refl })
 
-  patterns_on : (next : ℕ) → q.ended ≡ ended.At next → after_patterns s T Q ≡ after_phrases s with_patterns (part_three s T.names (length Q.items) next)
+  patterns_on : (next : ℕ) → q.ended ≡ Ok next → after_patterns s T Q ≡ after_phrases s with_patterns (part_three s T.names (length Q.items) next)
   unfolding after_patterns onward
   patterns_on next e = rw (ended_at q.ended Q.ended next e L.ended) (phrases_part s with_patterns next refl refl)
 
-  pub patterns_read : (next : ℕ) (r : SheetRead) (hs bs : List ℕ) → q.ended ≡ ended.At next
+  pub patterns_read : (next : ℕ) (r : Result Counts Refusal) (hs bs : List ℕ) → q.ended ≡ Ok next
       → FromPhrases (after_phrases s with_patterns (part_three s T.names (length Q.items) next)) r hs₀ bs₀ hs bs → FromPatterns (after_patterns s T Q) r ps₀ hs₀ bs₀ ps hs bs
   patterns_read next r hs bs e D =
       let F = part_three s T.names (length Q.items) next in
@@ -192,10 +192,10 @@ module _ (s : List ℕ) (T : Tables) (at props words : ℕ) (ns ps₀ ps hs₀ b
   L'' : Listing 5 128 (part_two s T.names at) q ps₀ ps
   L'' = rw H.names L
 
-  pub from_patterns_refused : (why p : ℕ) → q.ended ≡ ended.Refused why p → FromPatterns (after_patterns s T (part_two s T.names at)) (sheet_read.Refused why p) ps₀ hs₀ bs₀ ps hs₀ bs₀
+  pub from_patterns_refused : (err : Refusal) → q.ended ≡ Err err → FromPatterns (after_patterns s T (part_two s T.names at)) (Err err) ps₀ hs₀ bs₀ ps hs₀ bs₀
   from_patterns_refused = patterns_refused s T at ps₀ ps hs₀ bs₀ q L''
 
-  pub from_patterns_read : (next : ℕ) (r : SheetRead) (hs bs : List ℕ) → q.ended ≡ ended.At next
+  pub from_patterns_read : (next : ℕ) (r : Result Counts Refusal) (hs bs : List ℕ) → q.ended ≡ Ok next
       → ((U : Tables) → ReadSoFar U props words ns → length U.patterns ≡ q.count → FromPhrases (after_phrases s U (part_three s U.names (length U.patterns) next)) r hs₀ bs₀ hs bs)
       → FromPatterns (after_patterns s T (part_two s T.names at)) r ps₀ hs₀ bs₀ ps hs bs
   from_patterns_read next r hs bs e D =
@@ -235,17 +235,17 @@ module _ (s : List ℕ) (ns₀ fs₀ ns fs : List ℕ) (p : Named) (P : Proposit
       let k : length ns ≡ length (part_one s).names + length (drop (length (part_one s).names) ns₀) = ap length P.names ∙ length-append (part_one s).names (drop (length (part_one s).names) ns₀) in
       omega arith
 
-  pub whole_refused : (ps hs bs : List ℕ) (why q : ℕ) → p.ended ≡ ended.Refused why q → Laid s (sheet_read.Refused why q) ns₀ fs₀ ps hs bs ns fs ps hs bs
+  pub whole_refused : (ps hs bs : List ℕ) (err : Refusal) → p.ended ≡ Err err → Laid s (Err err) ns₀ fs₀ ps hs bs ns fs ps hs bs
   unfolding after_props onward counted flat
-  whole_refused ps hs bs why q e =
-      let x : reading s ≡ record { tables = with_names; root = no why q } = reading_parts s ∙ rw (ended_no p.ended (part_one s).ended why q e P.ended) in
+  whole_refused ps hs bs err e =
+      let x : reading s ≡ record { tables = with_names; root = no (number_of err.0) err.1 } = reading_parts s ∙ rw (ended_no p.ended (part_one s).ended err e P.ended) in
       record { answered = rw x refl; names = rw x P.names; forms = rw x P.forms; patterns = rw x refl; phrases = rw x refl; base = rw x refl }
 
-  sheet_on : (next : ℕ) → p.ended ≡ ended.At next → reading s ≡ after_patterns s with_names (part_two s (part_one s).names next)
+  sheet_on : (next : ℕ) → p.ended ≡ Ok next → reading s ≡ after_patterns s with_names (part_two s (part_one s).names next)
   unfolding after_props onward
   sheet_on next e = reading_parts s ∙ rw (ended_at p.ended (part_one s).ended next e P.ended) (patterns_part s with_names next refl refl refl)
 
-  pub whole_read : (next : ℕ) (r : SheetRead) (ps₀ hs₀ bs₀ ps hs bs : List ℕ) → p.ended ≡ ended.At next
+  pub whole_read : (next : ℕ) (r : Result Counts Refusal) (ps₀ hs₀ bs₀ ps hs bs : List ℕ) → p.ended ≡ Ok next
       → ((T : Tables) → ReadSoFar T p.props p.words ns → FromPatterns (after_patterns s T (part_two s T.names next)) r ps₀ hs₀ bs₀ ps hs bs)
       → Laid s r ns₀ fs₀ ps₀ hs₀ bs₀ ns fs ps hs bs
   whole_read next r ps₀ hs₀ bs₀ ps hs bs e D =

@@ -23,7 +23,9 @@ use Rattle.phrases.specs.declared.shape.Shape.{Shape}
 use Rattle.phrases.specs.declared.shape.Shape.TheVariants as shape
 use Rattle.phrases.specs.Shapes.{operand_at, shape_of, shaped_row}
 use Rattle.phrases.proofs.PhraseKinds.{shaped}
-use Rattle.reader.specs.declared.SheetRead.{SheetRead}
+use Rattle.std.specs.Prelude.{Result, Option, Some, None}
+use Rattle.language.specs.declared.refusal.Refusal.{Refusal}
+use Rattle.reader.specs.declared.Counts.{Counts}
 use Rattle.reader.specs.Laid.{Laid}
 use Rattle.reader.proofs.Stages.{onward_has, phrases_have}
 
@@ -80,28 +82,28 @@ phrase_width s names nq rows at row next e =
     let x = then_got (number s at) _ row next e in
     go x.value (shape_of x.value) x.place (sym (shaped s names nq rows at x.place x.value) ∙ x.rest)
   where
-    go : (k : ℕ) (x : Shape) (a : ℕ) → shaped_row s names nq rows at k x a ≡ got row next → length row ≡ 12
-    go k shape.Nothing a f = not_got out_of_range at row next f
-    go k shape.Name a f =
+    go : (k : ℕ) (x : Option Shape) (a : ℕ) → shaped_row s names nq rows at k x a ≡ got row next → length row ≡ 12
+    go k None a f = not_got out_of_range at row next f
+    go k (Some shape.Name) a f =
         let x = then_got (name_ref s names a) _ row next f in
         cells_width (k ∷ (x.value ∷ [])) row x.place next x.rest
-    go k (shape.One o) a f =
+    go k (Some (shape.One o)) a f =
         let x = then_got (operand_at s rows o a) _ row next f in
         cells_width (k ∷ (x.value ∷ [])) row x.place next x.rest
-    go k (shape.Two o o') a f =
+    go k (Some (shape.Two o o')) a f =
         let x = then_got (operand_at s rows o a) _ row next f in
         let y = then_got (operand_at s rows o' x.place) _ row next x.rest in
         cells_width (k ∷ (x.value ∷ (y.value ∷ []))) row y.place next y.rest
-    go k (shape.Call o) a f =
+    go k (Some (shape.Call o)) a f =
         let x = then_got (operand_at s rows operand.Expression a) _ row next f in
         let y = then_got (from 0 4 s x.place) _ row next x.rest in
         let z = then_got (times y.value (λ acc. operand_at s rows o) [] y.place) _ row next y.rest in
         cells_width (k ∷ (x.value ∷ (y.value ∷ z.value))) row z.place next z.rest
-    go k shape.Block a f =
+    go k (Some shape.Block) a f =
         let y = then_got (from 1 8 s a) _ row next f in
         let z = then_got (times y.value (λ acc. operand_at s rows operand.Deduction) [] y.place) _ row next y.rest in
         cells_width (k ∷ (y.value ∷ z.value)) row z.place next z.rest
-    go k (shape.Match o o') a f =
+    go k (Some (shape.Match o o')) a f =
         let x = then_got (operand_at s rows o a) _ row next f in
         let y = then_got (from 1 4 s x.place) _ row next x.rest in
         let z = then_got (times y.value (λ acc. clause_row s nq (operand_at s rows o')) [] y.place) _ row next y.rest in
@@ -152,7 +154,7 @@ pub record Stand (s ps hs : List ℕ) : Type 0 where
   pub patterns : rows_in 5 (length (reading s).tables.patterns) ps ≡ (reading s).tables.patterns
   pub phrases : rows_in 12 (length (reading s).tables.phrases) hs ≡ (reading s).tables.phrases
 
-pub rows_stand : (s : List ℕ) (r : SheetRead) (ns₀ fs₀ ps₀ hs₀ bs₀ ns fs ps hs bs : List ℕ) → Laid s r ns₀ fs₀ ps₀ hs₀ bs₀ ns fs ps hs bs → Stand s ps hs
+pub rows_stand : (s : List ℕ) (r : Result Counts Refusal) (ns₀ fs₀ ps₀ hs₀ bs₀ ns fs ps hs bs : List ℕ) → Laid s r ns₀ fs₀ ps₀ hs₀ bs₀ ns fs ps hs bs → Stand s ps hs
 rows_stand s r ns₀ fs₀ ps₀ hs₀ bs₀ ns fs ps hs bs L =
     let w = reading_wide s in
     let pats = (reading s).tables.patterns in

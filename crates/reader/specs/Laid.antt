@@ -1,10 +1,11 @@
 -- What the reader's functions answer and leave in the lent buffers.
-use Rattle.std.specs.Prelude.{ℕ, ◌+◌, ◌≤◌, ◌≡◌, List, length, take}
+use Rattle.std.specs.Prelude.{ℕ, ◌+◌, ◌≤◌, ◌≡◌, List, length, take, Result, Ok, Err}
 use Rattle.language.specs.Numbers.{Got, got, no}
 use Rattle.words.specs.Front.{front}
 use Rattle.reader.specs.declared.Named.{Named}
-use Rattle.reader.specs.declared.SheetRead.{SheetRead}
-use Rattle.reader.specs.declared.SheetRead.TheVariants as sheet_read
+use Rattle.language.specs.Numbered.{numbered}
+use Rattle.language.specs.declared.refusal.Refusal.{Refusal}
+use Rattle.reader.specs.declared.Counts.{Counts}
 use Rattle.reader.specs.declared.parts.Listed.{Listed}
 use Rattle.records.specs.Rows.{flat}
 use Rattle.records.specs.Reading.{Kept, Props, Tables, Reading, reading}
@@ -38,11 +39,11 @@ pub record Gathered (K : Kept ℕ) (r : Listed) (t₀ t : List ℕ) : Type 0 whe
   pub ended : ends r.ended ≡ K.ended
   pub table : t ≡ front K.items t₀
 
--- what a sheet's reading answers: how many there are of each, with the root, or the refusal
-unfoldable pub counted : Tables → Got ℕ → SheetRead
-counted T (no why place) = sheet_read.Refused why place
+-- what a sheet's reading answers: how many there are of each, with the root, or the refusal's number and place
+unfoldable pub counted : Tables → Got ℕ → Result Counts (ℕ × ℕ)
+counted T (no why place) = Err (why, place)
 counted T (got root end) =
-    sheet_read.Read (record {
+    Ok (record {
       props = length T.names;
       words = length T.words;
       patterns = length T.patterns;
@@ -52,7 +53,7 @@ counted T (got root end) =
     })
 
 -- the answer of a reading
-abbrev pub answer : Reading → SheetRead
+abbrev pub answer : Reading → Result Counts (ℕ × ℕ)
 answer X = counted X.tables X.root
 
 -- what is read already: names, of which the first so many stand in a buffer, and so many words
@@ -62,19 +63,19 @@ pub record ReadSoFar (T : Tables) (props words : ℕ) (ns : List ℕ) : Type 0 w
   pub words_many : length T.words ≡ words
 
 -- what reading from the base on answers, and leaves in the buffers of the parts that it reads
-pub record FromBase (X : Reading) (r : SheetRead) (bs₀ bs : List ℕ) : Type 0 where
-  pub answered : r ≡ answer X
+pub record FromBase (X : Reading) (r : Result Counts Refusal) (bs₀ bs : List ℕ) : Type 0 where
+  pub answered : numbered r ≡ answer X
   pub base : bs ≡ front X.tables.base bs₀
 
 -- the same from the phrases on
-pub record FromPhrases (X : Reading) (r : SheetRead) (hs₀ bs₀ hs bs : List ℕ) : Type 0 where
-  pub answered : r ≡ answer X
+pub record FromPhrases (X : Reading) (r : Result Counts Refusal) (hs₀ bs₀ hs bs : List ℕ) : Type 0 where
+  pub answered : numbered r ≡ answer X
   pub phrases : hs ≡ front (flat X.tables.phrases) hs₀
   pub base : bs ≡ front X.tables.base bs₀
 
 -- the same from the patterns on
-pub record FromPatterns (X : Reading) (r : SheetRead) (ps₀ hs₀ bs₀ ps hs bs : List ℕ) : Type 0 where
-  pub answered : r ≡ answer X
+pub record FromPatterns (X : Reading) (r : Result Counts Refusal) (ps₀ hs₀ bs₀ ps hs bs : List ℕ) : Type 0 where
+  pub answered : numbered r ≡ answer X
   pub patterns : ps ≡ front (flat X.tables.patterns) ps₀
   pub phrases : hs ≡ front (flat X.tables.phrases) hs₀
   pub base : bs ≡ front X.tables.base bs₀
@@ -89,8 +90,8 @@ pub record Room (ns fs ps hs bs : List ℕ) : Type 0 where
   pub base : 64 ≤ length bs
 
 -- a sheet's reading: its answer, and its tables in front of the five buffers
-pub record Laid (s : List ℕ) (r : SheetRead) (ns₀ fs₀ ps₀ hs₀ bs₀ ns fs ps hs bs : List ℕ) : Type 0 where
-  pub answered : r ≡ answer (reading s)
+pub record Laid (s : List ℕ) (r : Result Counts Refusal) (ns₀ fs₀ ps₀ hs₀ bs₀ ns fs ps hs bs : List ℕ) : Type 0 where
+  pub answered : numbered r ≡ answer (reading s)
   pub names : ns ≡ front (reading s).tables.names ns₀
   pub forms : fs ≡ front (reading s).tables.words fs₀
   pub patterns : ps ≡ front (flat (reading s).tables.patterns) ps₀

@@ -10,8 +10,8 @@ ghost use Rattle.reader.specs.Parts.{part_two, part_three, part_four};
 ghost use Rattle.records.specs.Answers.{rows_in};
 ghost use Rattle.reader.specs.Laid.{Space, Propositions, Room, Laid, ReadSoFar, FromBase, FromPhrases, FromPatterns};
 
-use numbers::Number;
-use records::{Ended, props, rows};
+use language::Refusal;
+use records::{props, rows};
 
 pub mod parts;
 
@@ -26,19 +26,12 @@ pub struct Counts {
     pub root: usize,
 }
 
-// What reading a sheet answers: the counts, or a refusal's number and place.
-#[derive(Drop)]
-pub enum SheetRead {
-    Read(Counts),
-    Refused(usize, usize),
-}
-
 // How many propositions have names, how many words of the table are in use, and where that ended.
 #[derive(Drop)]
 pub struct Named {
     pub props: usize,
     pub words: usize,
-    pub ended: Ended,
+    pub ended: Result<usize, Refusal>,
 }
 
 // How long the buffers of a sheet are at least: its names; words for its propositions, true and false; five numbers a pattern; twelve a phrase; its base.
@@ -60,16 +53,13 @@ pub fn read_sheet(
     phrases: &mut [u32],
     base: &mut [u32],
     s: &[u8],
-) -> SheetRead
+) -> Result<Counts, Refusal>
     requires { Room names.old forms.old patterns.old phrases.old base.old }
     ensures { Laid s.now result names.old forms.old patterns.old phrases.old base.old names.new forms.new patterns.new phrases.new base.new }
 {
     let p = parts::propositions(names, forms, s);
-    let ended = p.ended;
-    match ended {
-        Ended::Refused(why, place) => SheetRead::Refused(why, place),
-        Ended::At(next) => read_patterns(patterns, phrases, base, names, s, p.props, p.words, next),
-    }
+    let next = p.ended?;
+    read_patterns(patterns, phrases, base, names, s, p.props, p.words, next)
 }
 
 // So many propositions, whose records are at a place, of a sheet or of a certificate. Each gets a name, its number in the table, of which
@@ -85,31 +75,29 @@ pub fn read_propositions(
     requires { Space count words names.old forms.old }
     ensures { Propositions (naming s.now count [] (take words forms.old) at) result names.old forms.old names.new forms.new }
 {
-    let mut i = 0;
     let mut used = words;
     let mut p = at;
-    while i < count {
+    for i in 0..count {
         match props::word_at(names, s, i, p) {
-            Number::Refused(why, place) => {
-                return Named {
-                    props: i,
-                    words: used,
-                    ended: Ended::Refused(why, place),
-                };
-            }
-            Number::Got(w, next) => {
+            Ok((w, next)) => {
                 let f = forms::intern(forms, used, w);
                 words::put(names, i, f.at);
                 used = f.size;
                 p = next;
             }
+            Err(refusal) => {
+                return Named {
+                    props: i,
+                    words: used,
+                    ended: Err(refusal),
+                };
+            }
         }
-        i += 1;
     }
     Named {
-        props: i,
+        props: count,
         words: used,
-        ended: Ended::At(p),
+        ended: Ok(p),
     }
 }
 
@@ -123,16 +111,13 @@ fn read_patterns(
     props: usize,
     words: usize,
     at: usize,
-) -> SheetRead
+) -> Result<Counts, Refusal>
     requires { (props ≤ length names.now) × (640 ≤ length patterns.old) × (6144 ≤ length phrases.old) × (64 ≤ length base.old) }
     ensures { (T : Tables) → ReadSoFar T props words names.now → FromPatterns (after_patterns s.now T (part_two s.now T.names at)) result patterns.old phrases.old base.old patterns.new phrases.new base.new }
 {
     let q = parts::patterns(patterns, names, s, props, at);
-    let ended = q.ended;
-    match ended {
-        Ended::Refused(why, place) => SheetRead::Refused(why, place),
-        Ended::At(next) => read_phrases(phrases, base, names, s, props, words, q.count, next),
-    }
+    let next = q.ended?;
+    read_phrases(phrases, base, names, s, props, words, q.count, next)
 }
 
 // Part 3, and what follows it.
@@ -145,18 +130,15 @@ fn read_phrases(
     words: usize,
     patterns: usize,
     at: usize,
-) -> SheetRead
+) -> Result<Counts, Refusal>
     requires { (props ≤ length names.now) × (patterns ≤ 128) × (6144 ≤ length phrases.old) × (64 ≤ length base.old) }
     ensures { (T : Tables) → ReadSoFar T props words names.now → length T.patterns ≡ patterns → FromPhrases (after_phrases s.now T (part_three s.now T.names (length T.patterns) at)) result phrases.old base.old phrases.new base.new }
 {
     let f = parts::phrases(phrases, names, s, props, patterns, at);
-    let ended = f.ended;
-    match ended {
-        Ended::Refused(why, place) => SheetRead::Refused(why, place),
-        Ended::At(next) => read_base(
-            base, phrases, names, s, props, words, patterns, f.count, next,
-        ),
-    }
+    let next = f.ended?;
+    read_base(
+        base, phrases, names, s, props, words, patterns, f.count, next,
+    )
 }
 
 // Parts 4 and 5.
@@ -170,24 +152,19 @@ fn read_base(
     patterns: usize,
     count: usize,
     at: usize,
-) -> SheetRead
+) -> Result<Counts, Refusal>
     requires { (props ≤ length names.now) × (count ≤ 512) × (64 ≤ length base.old) }
     ensures { (T : Tables) → ReadSoFar T props words names.now → length T.patterns ≡ patterns → T.phrases ≡ rows_in 12 count phrases.now → FromBase (after_base s.now T (part_four s.now T.names at)) result base.old base.new }
 {
     let b = parts::base(base, names, s, props, at);
-    let ended = b.ended;
-    match ended {
-        Ended::Refused(why, place) => SheetRead::Refused(why, place),
-        Ended::At(next) => match parts::root(phrases, s, count, next) {
-            Number::Refused(why, place) => SheetRead::Refused(why, place),
-            Number::Got(root, end) => SheetRead::Read(Counts {
-                props: props,
-                words: words,
-                patterns: patterns,
-                phrases: count,
-                base: b.count,
-                root: root,
-            }),
-        },
-    }
+    let next = b.ended?;
+    let (root, end) = parts::root(phrases, s, count, next)?;
+    Ok(Counts {
+        props,
+        words,
+        patterns,
+        phrases: count,
+        base: b.count,
+        root,
+    })
 }

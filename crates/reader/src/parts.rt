@@ -7,9 +7,8 @@ ghost use Rattle.records.specs.Answers.{rows_in};
 ghost use Rattle.reader.specs.Laid.{Propositions, Listing, Gathered};
 
 use super::Named;
-use language::refusal;
-use numbers::Number;
-use records::{Ended, names, patterns};
+use language::{Refusal, Why};
+use records::{names, patterns};
 
 // How many propositions a sheet has at most.
 pub const MOST_PROPOSITIONS: usize = 512;
@@ -27,7 +26,7 @@ pub const MOST_MEMBERS: usize = 64;
 #[derive(Drop)]
 pub struct Listed {
     pub count: usize,
-    pub ended: Ended,
+    pub ended: Result<usize, Refusal>,
 }
 
 // Part 1: at most 512 propositions, in a table that starts with true and false.
@@ -37,12 +36,12 @@ pub fn propositions(names: &mut [u32], forms: &mut [u32], s: &[u8]) -> Named
 {
     let words = forms::start(forms);
     match numbers::read_from(s, 0, 0, MOST_PROPOSITIONS) {
-        Number::Refused(why, place) => Named {
+        Ok((count, next)) => super::read_propositions(names, forms, s, count, words, next),
+        Err(refusal) => Named {
             props: 0,
-            words: words,
-            ended: Ended::Refused(why, place),
+            words,
+            ended: Err(refusal),
         },
-        Number::Got(count, next) => super::read_propositions(names, forms, s, count, words, next),
     }
 }
 
@@ -52,11 +51,11 @@ pub fn patterns(patterns: &mut [u32], names: &[u32], s: &[u8], props: usize, at:
     ensures { Listing 5 128 (part_two s.now (take props names.now) at) result patterns.old patterns.new }
 {
     match numbers::read_from(s, at, 0, MOST_PATTERNS) {
-        Number::Refused(why, place) => Listed {
+        Ok((count, next)) => pattern_rows(patterns, names, s, props, count, next),
+        Err(refusal) => Listed {
             count: 0,
-            ended: Ended::Refused(why, place),
+            ended: Err(refusal),
         },
-        Number::Got(count, next) => pattern_rows(patterns, names, s, props, count, next),
     }
 }
 
@@ -73,11 +72,11 @@ pub fn phrases(
     ensures { Listing 12 512 (part_three s.now (take props names.now) patterns at) result phrases.old phrases.new }
 {
     match numbers::read_from(s, at, 1, MOST_PHRASES) {
-        Number::Refused(why, place) => Listed {
+        Ok((count, next)) => phrase_rows(phrases, names, s, props, patterns, count, next),
+        Err(refusal) => Listed {
             count: 0,
-            ended: Ended::Refused(why, place),
+            ended: Err(refusal),
         },
-        Number::Got(count, next) => phrase_rows(phrases, names, s, props, patterns, count, next),
     }
 }
 
@@ -87,28 +86,24 @@ pub fn base(base: &mut [u32], names: &[u32], s: &[u8], props: usize, at: usize) 
     ensures { Gathered (part_four s.now (take props names.now) at) result base.old base.new }
 {
     match numbers::read_from(s, at, 0, MOST_MEMBERS) {
-        Number::Refused(why, place) => Listed {
+        Ok((count, next)) => members(base, names, s, props, count, next),
+        Err(refusal) => Listed {
             count: 0,
-            ended: Ended::Refused(why, place),
+            ended: Err(refusal),
         },
-        Number::Got(count, next) => members(base, names, s, props, count, next),
     }
 }
 
 // Part 5: the root, a deduction, at which the bytes end.
-pub fn root(phrases: &[u32], s: &[u8], n: usize, at: usize) -> Number
+pub fn root(phrases: &[u32], s: &[u8], n: usize, at: usize) -> Result<(usize, usize), Refusal>
     requires { n ≤ 512 }
     ensures { gotten result ≡ root_at s.now (rows_in 12 n phrases.now) at }
 {
-    match phrases::deduction(phrases, s, n, at) {
-        Number::Refused(why, place) => Number::Refused(why, place),
-        Number::Got(r, end) => {
-            if end == s.len() {
-                return Number::Got(r, end);
-            }
-            Number::Refused(refusal::BYTES_AFTER, end)
-        }
+    let (r, end) = phrases::deduction(phrases, s, n, at)?;
+    if end == s.len() {
+        return Ok((r, end));
     }
+    Err(Refusal(Why::BytesAfter, end))
 }
 
 // So many patterns, whose records are at a place.
@@ -123,25 +118,21 @@ fn pattern_rows(
     requires { (props ≤ length names.now) × (count ≤ 128) × (640 ≤ length patterns.old) }
     ensures { Listing 5 128 (keeping (pattern_row s.now (take props names.now)) count [] at) result patterns.old patterns.new }
 {
-    let mut i = 0;
     let mut p = at;
-    while i < count {
+    for i in 0..count {
         match patterns::read_pattern(patterns, names, s, props, i, p) {
-            Ended::Refused(why, place) => {
+            Ok(next) => p = next,
+            Err(refusal) => {
                 return Listed {
                     count: i,
-                    ended: Ended::Refused(why, place),
+                    ended: Err(refusal),
                 };
             }
-            Ended::At(next) => {
-                p = next;
-            }
         }
-        i += 1;
     }
     Listed {
-        count: i,
-        ended: Ended::At(p),
+        count,
+        ended: Ok(p),
     }
 }
 
@@ -158,25 +149,21 @@ fn phrase_rows(
     requires { (props ≤ length names.now) × (patterns ≤ 128) × (count ≤ 512) × (6144 ≤ length phrases.old) }
     ensures { Listing 12 512 (keeping (phrase_row s.now (take props names.now) patterns) count [] at) result phrases.old phrases.new }
 {
-    let mut i = 0;
     let mut p = at;
-    while i < count {
+    for i in 0..count {
         match phrases::read_phrase(phrases, names, s, props, patterns, i, p) {
-            Ended::Refused(why, place) => {
+            Ok(next) => p = next,
+            Err(refusal) => {
                 return Listed {
                     count: i,
-                    ended: Ended::Refused(why, place),
+                    ended: Err(refusal),
                 };
             }
-            Ended::At(next) => {
-                p = next;
-            }
         }
-        i += 1;
     }
     Listed {
-        count: i,
-        ended: Ended::At(p),
+        count,
+        ended: Ok(p),
     }
 }
 
@@ -192,25 +179,23 @@ fn members(
     requires { (props ≤ length names.now) × (count ≤ length base.old) }
     ensures { Gathered (keeping (λ acc. name_ref s.now (take props names.now)) count [] at) result base.old base.new }
 {
-    let mut i = 0;
     let mut p = at;
-    while i < count {
+    for i in 0..count {
         match names::name_ref(names, s, props, p) {
-            Number::Refused(why, place) => {
-                return Listed {
-                    count: i,
-                    ended: Ended::Refused(why, place),
-                };
-            }
-            Number::Got(v, next) => {
+            Ok((v, next)) => {
                 words::put(base, i, v);
                 p = next;
             }
+            Err(refusal) => {
+                return Listed {
+                    count: i,
+                    ended: Err(refusal),
+                };
+            }
         }
-        i += 1;
     }
     Listed {
-        count: i,
-        ended: Ended::At(p),
+        count,
+        ended: Ok(p),
     }
 }

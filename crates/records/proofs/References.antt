@@ -1,4 +1,4 @@
--- What an answer says of the reading it stands for, and references to the names in front of a buffer.
+-- References to the names in front of a buffer.
 use Prim.Native.Nat.{ℕ, ◌≤◌, ◌<◌, ◌^◌}
 use mathlib.Core.Path.{◌≡◌, sym, ap, ◌∙◌}
 use mathlib.Core.List.{List}
@@ -7,21 +7,7 @@ use lib.ListN.{length, get_or, take}
 use lib.Seq.{get_or-take, length-take-le}
 use Rattle.language.specs.Numbers.{Got, got, no, then, below}
 use Rattle.numbers.proofs.Bounds.{below_got, not_got}
-use Rattle.numbers.specs.Gotten.{gotten}
-use Rattle.numbers.specs.declared.Number.{Number}
-use Rattle.numbers.specs.declared.Number.TheVariants as number
-use Rattle.records.specs.Answers.{Narrow}
 use Rattle.records.specs.Reading.{name_ref}
-
--- what an answer says of the reading that it stands for
-pub gotten_got : {g : Got ℕ} (r : Number) (v next : ℕ) → r ≡ number.Got v next → gotten r ≡ g → g ≡ got v next
-gotten_got r v next e f = sym f ∙ ap gotten e
-
-pub gotten_no : {g : Got ℕ} (r : Number) (why place : ℕ) → r ≡ number.Refused why place → gotten r ≡ g → g ≡ no why place
-gotten_no r why place e f = sym f ∙ ap gotten e
-
-pub narrow_got : (r : Number) (v next : ℕ) → r ≡ number.Got v next → Narrow r → v < 2 ^ 32
-narrow_got r v next e n = rw e at n
 
 -- a name among the first n of a buffer
 pub name_read : (s t : List ℕ) (n at p next : ℕ) → n ≤ length t → below n s at ≡ got p next → name_ref s (take n t) at ≡ got (get_or t p 0) next

@@ -6,12 +6,15 @@ use native.Mathlib.Omega.{arith}
 use native.Mathlib.Numerals.{add-one}
 use native.Mathlib.Nat.{le_of_suc-le-suc}
 use lib.ListN.{length, get_or, set, take, drop, length-append, length-set, drop_of_length-le}
-use lib.Seq.{sets, get_or-take, get_or-drop, drop-cons, take-append_seam, drop-append_seam}
+use borrow.Rule.Slice.PartMut.{put_mid}
+use Rattle.std.specs.Prelude.{Result, Ok, Err}
+use Rattle.std.proofs.lemmas.List.Edits.{sets-eq}
+use lib.Seq.{sets, drop-drop, get_or-take, get_or-drop, drop-cons, take-append_seam, drop-append_seam}
 use Rattle.language.specs.Numbers.{Got, got, no}
 use Rattle.numbers.proofs.Bounds.{not_got}
 use Rattle.records.specs.Rows.{cell, flat}
-use Rattle.records.specs.declared.Ended.{Ended}
-use Rattle.records.specs.declared.Ended.TheVariants as ended
+use Rattle.language.specs.Numbered.{number_of}
+use Rattle.language.specs.declared.refusal.Refusal.{Refusal}
 use Rattle.records.specs.Answers.{rows_in, filled, closed, laid, Put}
 
 -- as many rows as are asked for
@@ -65,42 +68,22 @@ rows_flat w (x ∷ rows) d a =
     let u : drop w (x ++ (flat rows ++ d)) ≡ flat rows ++ d = rw (← e) (drop-append_seam x (flat rows ++ d)) in
     rw (append_assoc x (flat rows) d, t, u, rows_flat w rows d a.1)
 
--- a row laid number by number: the first i are there
-pub record Laying (t₀ row : List ℕ) (from : ℕ) (t : List ℕ) (i : ℕ) : Type 0 where
-  pub within : i ≤ length row
-  pub same : sets t₀ from row ≡ sets t (from + i) (drop i row)
-  pub long : length t ≡ length t₀
-
-module _ (t₀ row : List ℕ) (from : ℕ) where
-  pub laying_start : Laying t₀ row from t₀ 0
-  laying_start = let z : from + 0 ≡ from = omega arith in record { within = omega arith; same = rw z; long = refl }
-
-  module _ (t : List ℕ) (i : ℕ) (a : Laying t₀ row from t i) where
-    pub laying_more : i < length row → Laying t₀ row from (set t (from + i) (get_or row i 0)) (i + 1)
-    laying_more h =
-        let z : suc (from + i) ≡ from + (i + 1) = omega arith in
-        let d : drop i row ≡ get_or row i 0 ∷ drop (i + 1) row = rw (drop-cons row i 0 h, add-one) in
-        record {
-          within = omega arith;
-          same = a.same ∙ rw d (ap (λ (k : ℕ). sets (set t (from + i) (get_or row i 0)) k (drop (i + 1) row)) z);
-          long = length-set t (from + i) (get_or row i 0) ∙ a.long;
-        }
-
-    pub laying_end : length row ≤ i → t ≡ sets t₀ from row
-    laying_end h = sym (a.same ∙ rw (drop_of_length-le row {i = i} h))
+-- a row copied over a part of a table
+pub copied : (t row : List ℕ) (from k : ℕ) → k ≡ length row → from + length row ≤ length t → put_mid from k t row ≡ sets t from row
+copied t row from k e h = rw (sets-eq row t from h, e, drop-drop (length row) from t) (sym (append_assoc (take from t) row (drop (from + length row) t)))
 
 -- a row that was read and laid, or a refusal that lays nothing
-module _ (w : ℕ) (g : Got (List ℕ)) (r : Ended) (row : List ℕ) (f : filled r row ≡ g) (at : ℕ) (t : List ℕ) where
-  pub put_refused : (why place : ℕ) → r ≡ ended.Refused why place → Put w g (ended.Refused why place) at t t
+module _ (w : ℕ) (g : Got (List ℕ)) (r : Result ℕ Refusal) (row : List ℕ) (f : filled r row ≡ g) (at : ℕ) (t : List ℕ) where
+  pub put_refused : (x : Refusal) → r ≡ Err x → Put w g (Err x) at t t
   unfolding closed laid
-  put_refused why place e =
-      let h : g ≡ no why place = sym f ∙ ap (λ (x : Ended). filled x row) e in
-      rw h (record { wide = λ row' next z. not_got why place row' next z; ended = refl; table = refl })
+  put_refused x e =
+      let h : g ≡ no (number_of x.0) x.1 = sym f ∙ ap (λ (y : Result ℕ Refusal). filled y row) e in
+      rw h (record { wide = λ row' next z. not_got (number_of x.0) x.1 row' next z; ended = refl; table = refl })
 
-  pub put_row : (t' : List ℕ) (next : ℕ) → length row ≡ w → r ≡ ended.At next → t' ≡ sets t at row → Put w g (ended.At next) at t t'
+  pub put_row : (t' : List ℕ) (next : ℕ) → length row ≡ w → r ≡ Ok next → t' ≡ sets t at row → Put w g (Ok next) at t t'
   unfolding closed laid
   put_row t' next l e k =
-      let h : g ≡ got row next = sym f ∙ ap (λ (x : Ended). filled x row) e in
+      let h : g ≡ got row next = sym f ∙ ap (λ (y : Result ℕ Refusal). filled y row) e in
       rw h (record { wide = λ row' m z. same row' m z ∙ l; ended = refl; table = k })
     where
       same : (row' : List ℕ) (m : ℕ) → got row next ≡ got row' m → length row' ≡ length row

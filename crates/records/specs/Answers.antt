@@ -1,26 +1,23 @@
 -- What reading a record answers and leaves, in the definition's words, and rows as a buffer has them.
-use Rattle.std.specs.Prelude.{ℕ, ◌<◌, ◌≤◌, ◌^◌, ◌≡◌, List, [], ◌∷◌, length, get_or, take, drop}
+use Rattle.std.specs.Prelude.{ℕ, ◌<◌, ◌≤◌, ◌^◌, ◌≡◌, List, [], ◌∷◌, length, get_or, take, drop, Result, Ok, Err, IfOk}
 use Rattle.std.proofs.lemmas.List.Edits.{sets}
 use Rattle.language.specs.Numbers.{Got, got, no}
-use Rattle.numbers.specs.declared.Number.{Number}
-use Rattle.numbers.specs.declared.Number.TheVariants as number
-use Rattle.records.specs.declared.Ended.{Ended}
-use Rattle.records.specs.declared.Ended.TheVariants as ended
+use Rattle.language.specs.Numbered.{number_of}
+use Rattle.language.specs.declared.refusal.Refusal.{Refusal}
 
--- where a reading ended
-abbrev pub ends : Ended → Got (Unit {0})
-ends (ended.At next) = got tt next
-ends (ended.Refused why place) = no why place
+-- where a reading ended: the next place, or a refusal
+abbrev pub ends : Result ℕ Refusal → Got (Unit {0})
+ends (Ok next) = got tt next
+ends (Err r) = no (number_of r.0) r.1
 
 -- a row that was read, or a refusal
-abbrev pub filled : Ended → List ℕ → Got (List ℕ)
-filled (ended.At next) row = got row next
-filled (ended.Refused why place) row = no why place
+abbrev pub filled : Result ℕ Refusal → List ℕ → Got (List ℕ)
+filled (Ok next) row = got row next
+filled (Err r) row = no (number_of r.0) r.1
 
 -- a number that fits a cell
-abbrev pub Narrow : Number → Type 0
-Narrow (number.Got v next) = v < 2 ^ 32
-Narrow (number.Refused why place) = Unit {0}
+abbrev pub Narrow : Result (ℕ × ℕ) Refusal → Type 0
+Narrow r = IfOk r (λ p. p.0 < 2 ^ 32)
 
 -- the first n rows of a buffer, w numbers each
 unfoldable pub rows_in : ℕ → ℕ → List ℕ → List (List ℕ)
@@ -43,7 +40,7 @@ laid (got row next) at t = sets t at row
 laid (no why place) at t = t
 
 -- where a reading ended, with its row of w numbers laid
-pub record Put (w : ℕ) (g : Got (List ℕ)) (r : Ended) (at : ℕ) (t₀ t : List ℕ) : Type 0 where
+pub record Put (w : ℕ) (g : Got (List ℕ)) (r : Result ℕ Refusal) (at : ℕ) (t₀ t : List ℕ) : Type 0 where
   pub wide : (row : List ℕ) (next : ℕ) → g ≡ got row next → length row ≡ w
   pub ended : ends r ≡ closed g
   pub table : t ≡ laid g at t₀

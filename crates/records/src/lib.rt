@@ -10,10 +10,3 @@ pub mod patterns;
 pub mod phrase_kind;
 pub mod props;
 pub mod rows;
-
-// Where a reading ended: the next place; or a refusal's number and place.
-#[derive(Drop)]
-pub enum Ended {
-    At(usize),
-    Refused(usize, usize),
-}

@@ -4,29 +4,20 @@ ghost use Rattle.numbers.specs.Gotten.{gotten};
 ghost use Rattle.records.specs.Reading.{name_ref};
 ghost use Rattle.records.specs.Answers.{Narrow};
 
-use numbers::Number;
+use language::Refusal;
 
 // The number in the table of an earlier proposition, one of the first n names.
-pub fn name_ref(names: &[u32], s: &[u8], n: usize, at: usize) -> Number
+pub fn name_ref(names: &[u32], s: &[u8], n: usize, at: usize) -> Result<(usize, usize), Refusal>
     requires { n ≤ length names.now }
     ensures { (gotten result ≡ name_ref s.now (take n names.now) at) × Narrow result }
 {
-    match numbers::read_below(s, at, n) {
-        Number::Refused(why, place) => Number::Refused(why, place),
-        Number::Got(p, next) => Number::Got(cell(names, p), next),
-    }
+    let (p, next) = numbers::read_below(s, at, n)?;
+    Ok((cell(names, p), next))
 }
 
 // The number in a cell; 0 past the end.
 pub fn cell(t: &[u32], i: usize) -> usize
     ensures { (result ≡ get_or t.now i 0) × (result < 2 ^ 32) }
 {
-    if i < t.len() { wide(t[i]) } else { 0 }
-}
-
-// A cell's number.
-fn wide(x: u32) -> usize
-    ensures { (result ≡ x) × (result < 2 ^ 32) }
-{
-    x as usize
+    if i < t.len() { t[i] as usize } else { 0 }
 }

@@ -9,22 +9,26 @@ ghost use Rattle.records.specs.Answers.{Narrow, Names};
 
 use super::names;
 use forms::kind;
-use language::refusal;
-use numbers::Number;
+use language::{Refusal, Why};
 
 // The word of the proposition whose record is at a place, over the first n names.
-pub fn word_at(names: &[u32], s: &[u8], n: usize, at: usize) -> Number
+pub fn word_at(names: &[u32], s: &[u8], n: usize, at: usize) -> Result<(usize, usize), Refusal>
     requires { Names n names.now }
     ensures { (gotten result ≡ word_at s.now (take n names.now) at) × Narrow result }
 {
-    match numbers::read(s, at) {
-        Number::Refused(why, place) => Number::Refused(why, place),
-        Number::Got(k, next) => word_of(names, s, n, k, at, next),
-    }
+    let (k, next) = numbers::read(s, at)?;
+    word_of(names, s, n, k, at, next)
 }
 
 // The word of a proposition of kind k, whose record began at start and has its operands at another place.
-fn word_of(names: &[u32], s: &[u8], n: usize, k: usize, start: usize, at: usize) -> Number
+fn word_of(
+    names: &[u32],
+    s: &[u8],
+    n: usize,
+    k: usize,
+    start: usize,
+    at: usize,
+) -> Result<(usize, usize), Refusal>
     requires { Names n names.now }
     ensures { (gotten result ≡ get_or (word_kinds s.now (take n names.now)) k (λ a. no out_of_range start) at) × Narrow result }
 {
@@ -32,7 +36,7 @@ fn word_of(names: &[u32], s: &[u8], n: usize, k: usize, start: usize, at: usize)
         return atom(s, at);
     }
     if k < kind::NOT {
-        return Number::Got(k, at);
+        return Ok((k, at));
     }
     if k == kind::NOT {
         return negation(names, s, n, at);
@@ -40,41 +44,39 @@ fn word_of(names: &[u32], s: &[u8], n: usize, k: usize, start: usize, at: usize)
     if k <= kind::IFF {
         return junction(names, s, n, k, at);
     }
-    Number::Refused(refusal::OUT_OF_RANGE, start)
+    Err(Refusal(Why::OutOfRange, start))
 }
 
 // The word of an atom whose number is at a place.
-fn atom(s: &[u8], at: usize) -> Number
+fn atom(s: &[u8], at: usize) -> Result<(usize, usize), Refusal>
     ensures { (gotten result ≡ atom_word s.now at) × Narrow result }
 {
-    match numbers::read_from(s, at, 0, 255) {
-        Number::Refused(why, place) => Number::Refused(why, place),
-        Number::Got(a, next) => Number::Got(forms::word(kind::ATOM, a, 0), next),
-    }
+    let (a, next) = numbers::read_from(s, at, 0, 255)?;
+    Ok((forms::word(kind::ATOM, a, 0), next))
 }
 
 // The word of a negation whose operand is at a place.
-fn negation(names: &[u32], s: &[u8], n: usize, at: usize) -> Number
+fn negation(names: &[u32], s: &[u8], n: usize, at: usize) -> Result<(usize, usize), Refusal>
     requires { Names n names.now }
     ensures { (gotten result ≡ negation_word s.now (take n names.now) at) × Narrow result }
 {
-    match names::name_ref(names, s, n, at) {
-        Number::Refused(why, place) => Number::Refused(why, place),
-        Number::Got(p, next) => Number::Got(forms::word(kind::NOT, p, 0), next),
-    }
+    let (p, next) = names::name_ref(names, s, n, at)?;
+    Ok((forms::word(kind::NOT, p, 0), next))
 }
 
 // The word of a proposition of kind k whose two operands are at a place.
-fn junction(names: &[u32], s: &[u8], n: usize, k: usize, at: usize) -> Number
+fn junction(
+    names: &[u32],
+    s: &[u8],
+    n: usize,
+    k: usize,
+    at: usize,
+) -> Result<(usize, usize), Refusal>
     requires names { Names n names.now }
     requires k_bound { k < 8 }
     ensures { (gotten result ≡ junction_word s.now (take n names.now) k at) × Narrow result }
 {
-    match names::name_ref(names, s, n, at) {
-        Number::Refused(why, place) => Number::Refused(why, place),
-        Number::Got(p, b) => match names::name_ref(names, s, n, b) {
-            Number::Refused(why, place) => Number::Refused(why, place),
-            Number::Got(q, next) => Number::Got(forms::word(k, p, q), next),
-        },
-    }
+    let (p, b) = names::name_ref(names, s, n, at)?;
+    let (q, next) = names::name_ref(names, s, n, b)?;
+    Ok((forms::word(k, p, q), next))
 }

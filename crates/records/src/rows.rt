@@ -13,9 +13,5 @@ pub fn lay(t: &mut [u32], row: &[u32], from: usize)
     requires { from + length row.now ≤ length t.old }
     ensures { t.new ≡ sets t.old from row.now }
 {
-    let mut i = 0;
-    while i < row.len() {
-        t[from + i] = row[i];
-        i += 1;
-    }
+    t[from..from + row.len()].copy_from_slice(row);
 }

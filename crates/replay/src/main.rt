@@ -14,11 +14,9 @@
 ghost use Rattle.std.specs.Prelude.{◌≡◌, ◌<◌, ◌≤◌, IfOk, length};
 
 use bindings::Value;
-use expressions::{Outcome, State};
-use language::{Checked, Evaluated, Inferences, Remaining, Work};
-use reader::SheetRead;
+use expressions::State;
+use language::{Accepted, Refusal, Remaining};
 use records::{phrase_kind, rows};
-use requests::{Decimal, Hex};
 use std::io;
 use std::io::Read;
 
@@ -45,14 +43,12 @@ fn main(rt: HostRuntime) -> io::Result<()> {
     let mut input = rt.reader();
     let mut line = [0u8; LINE];
     let mut long = 0;
-    let mut turns = u64::MAX;
-    while turns > 0 {
+    for _ in 0..u64::MAX {
         let taken = take_in(&rt, &mut input, &mut line, long)?;
         if taken.ended {
             return last(&rt, &line, taken.long);
         }
         long = taken.long;
-        turns -= 1;
     }
     Ok(())
 }
@@ -98,10 +94,8 @@ fn last(rt: &impl Print, line: &[u8], k: usize) -> io::Result<()> {
 // Adds characters to the line; the answer is how much of it is then held.
 fn lines(rt: &impl Print, line: &mut [u8], long: usize, input: &[u8]) -> io::Result<usize> {
     let mut k = long;
-    let mut i = 0;
-    while i < input.len() {
-        k = added(rt, line, k, input[i])?;
-        i += 1;
+    for c in input {
+        k = added(rt, line, k, *c)?;
     }
     Ok(k)
 }
@@ -163,11 +157,11 @@ fn is_sheet(rt: &impl Print, line: &[u8], values: bool) -> io::Result<bool> {
         return Ok(false);
     }
     match requests::read_hex(&mut bytes, line, 2, to) {
-        Hex::Bytes(n) => {
+        Some(n) => {
             answer_either(rt, &bytes[..n], values)?;
             Ok(true)
         }
-        Hex::Malformed => Ok(false),
+        None => Ok(false),
     }
 }
 
@@ -186,7 +180,6 @@ fn answer_sheet(rt: &impl Print, sheet: &[u8]) -> io::Result<()> {
     let mut patterns = [0u32; reader::PATTERNS];
     let mut phrases = [0u32; reader::PHRASES];
     let mut base = [0u32; reader::BASE];
-    rt.write_all(b"S")?;
     match reader::read_sheet(
         &mut names,
         &mut forms,
@@ -195,20 +188,14 @@ fn answer_sheet(rt: &impl Print, sheet: &[u8]) -> io::Result<()> {
         &mut base,
         sheet,
     ) {
-        SheetRead::Read(c) => {
-            number(rt, 0)?;
-            number(rt, c.props)?;
-            number(rt, c.patterns)?;
-            number(rt, c.phrases)?;
-            number(rt, c.base)?;
-            number(rt, c.root)?;
+        Ok(c) => {
+            println!(rt;
+                "S 0 {} {} {} {} {}",
+                c.props, c.patterns, c.phrases, c.base, c.root
+            )
         }
-        SheetRead::Refused(why, place) => {
-            number(rt, why)?;
-            number(rt, place)?;
-        }
+        Err(r) => refused(rt, "S", r),
     }
-    rt.write_all(b"\n")
 }
 
 // The answer to V SHEET: the sheet is read anew for each phrase.
@@ -219,8 +206,7 @@ fn answer_values(rt: &impl Print, sheet: &[u8]) -> io::Result<()> {
     let mut phrases = [0u32; reader::PHRASES];
     let mut base = [0u32; reader::BASE];
     let mut binds = [0u32; evaluator::BINDINGS];
-    let mut k = 0;
-    while k < reader::parts::MOST_PHRASES {
+    for k in 0..reader::parts::MOST_PHRASES {
         answer_phrase(
             rt,
             &mut names,
@@ -232,7 +218,6 @@ fn answer_values(rt: &impl Print, sheet: &[u8]) -> io::Result<()> {
             sheet,
             k,
         )?;
-        k += 1;
     }
     Ok(())
 }
@@ -251,71 +236,37 @@ fn answer_phrase(
 ) -> io::Result<()>
     requires { (length names.old ≡ 512) × (length forms.old ≡ 4610) × (length patterns.old ≡ 640) × (length phrases.old ≡ 6144) × (length base.old ≡ 64) × (length binds.old ≡ 16384) × (k < 512) }
 {
-    match reader::read_sheet(names, forms, patterns, phrases, base, sheet) {
-        SheetRead::Read(c) => {
-            if k < c.phrases {
-                if words::at(phrases, rows::PHRASE * k) < phrase_kind::METHOD_CALL {
-                    let st = State {
-                        props: c.words,
-                        bindings: 0,
-                        remaining: Remaining(evaluator::BUDGET),
-                    };
-                    return print_value(
-                        rt,
-                        k,
-                        expressions::evaluate(
-                            forms,
-                            binds,
-                            phrases,
-                            patterns,
-                            st,
-                            0,
-                            k,
-                            evaluator::NESTING,
-                        ),
-                    );
-                }
-            }
-            Ok(())
-        }
-        SheetRead::Refused(why, place) => Ok(()),
+    let Ok(c) = reader::read_sheet(names, forms, patterns, phrases, base, sheet) else {
+        return Ok(());
+    };
+    if c.phrases <= k || phrase_kind::METHOD_CALL <= words::at(phrases, rows::PHRASE * k) {
+        return Ok(());
     }
-}
-
-// The line for phrase k and what its evaluation gave.
-fn print_value(rt: &impl Print, k: usize, outcome: Outcome) -> io::Result<()> {
-    rt.write_all(b"V")?;
-    number(rt, k)?;
-    match outcome {
-        Outcome::Done(v, st) => {
-            number(rt, 0)?;
-            value(rt, v)?;
-            let left = st.remaining;
-            number(rt, left.0)?;
+    let st = State {
+        props: c.words,
+        bindings: 0,
+        remaining: Remaining(evaluator::BUDGET),
+    };
+    let depth = evaluator::NESTING;
+    print!(rt; "V {k}")?;
+    match expressions::evaluate(forms, binds, phrases, patterns, st, 0, k, depth) {
+        Ok((v, left)) => {
+            let (kind, number) = value(v);
+            println!(rt; " 0 {kind} {number} {}", left.remaining.0)
         }
-        Outcome::Refused(why, place) => {
-            number(rt, why)?;
-            number(rt, place)?;
-        }
+        Err(r) => refused(rt, "", r),
     }
-    rt.write_all(b"\n")
 }
 
 // A value's kind and number.
-fn value(rt: &impl Print, v: Value) -> io::Result<()> {
+fn value(v: Value) -> (usize, usize) {
     match v {
-        Value::Prop(p) => two(rt, 0, p),
-        Value::Constructor(c) => two(rt, 1, c),
-        Value::Rule(r) => two(rt, 2, r),
-        Value::Function(f) => two(rt, 3, f.phrase),
-        Value::Method(m) => two(rt, 4, m.phrase),
+        Value::Prop(p) => (0, p),
+        Value::Constructor(c) => (1, c),
+        Value::Rule(r) => (2, r),
+        Value::Function(f) => (3, f.phrase),
+        Value::Method(m) => (4, m.phrase),
     }
-}
-
-// Two numbers, each after a blank.
-fn two(rt: &impl Print, a: usize, b: usize) -> io::Result<()> {
-    number(rt, a)?;
-    number(rt, b)
 }
 
 // C SHEET CERTIFICATE.
@@ -324,8 +275,8 @@ fn is_check(rt: &impl Print, line: &[u8]) -> io::Result<bool> {
     let to = requests::field_end(line, 2);
     if to < line.len() {
         return match requests::read_hex(&mut sheet, line, 2, to) {
-            Hex::Bytes(n) => is_certificate(rt, &sheet[..n], line, to + 1),
-            Hex::Malformed => Ok(false),
+            Some(n) => is_certificate(rt, &sheet[..n], line, to + 1),
+            None => Ok(false),
         };
     }
     Ok(false)
@@ -339,11 +290,11 @@ fn is_certificate(rt: &impl Print, sheet: &[u8], line: &[u8], from: usize) -> io
         return Ok(false);
     }
     match requests::read_hex(&mut certificate, line, from, to) {
-        Hex::Bytes(n) => {
+        Some(n) => {
             answer_check(rt, sheet, &certificate[..n])?;
             Ok(true)
         }
-        Hex::Malformed => Ok(false),
+        None => Ok(false),
     }
 }
 
@@ -354,7 +305,6 @@ fn answer_check(rt: &impl Print, sheet: &[u8], certificate: &[u8]) -> io::Result
     let mut patterns = [0u32; checker::PATTERNS];
     let mut phrases = [0u32; checker::PHRASES];
     let mut base = [0u32; checker::BASE];
-    rt.write_all(b"C")?;
     match checker::check(
         sheet,
         certificate,
@@ -364,17 +314,9 @@ fn answer_check(rt: &impl Print, sheet: &[u8], certificate: &[u8]) -> io::Result
         &mut phrases,
         &mut base,
     ) {
-        Checked::Stands(conclusion, inferences) => {
-            number(rt, 0)?;
-            number(rt, conclusion)?;
-            number(rt, inferences.0)?;
-        }
-        Checked::Falls(why, place) => {
-            number(rt, why)?;
-            number(rt, place)?;
-        }
+        Ok(c) => println!(rt; "C 0 {} {}", c.conclusion, c.inferences.0),
+        Err(r) => refused(rt, "C", r),
     }
-    rt.write_all(b"\n")
 }
 
 // T TOKENS BUDGET ROOM SHEET.
@@ -382,8 +324,8 @@ fn is_lent(rt: &impl Print, line: &[u8]) -> io::Result<bool> {
     let to = requests::field_end(line, 2);
     if to < line.len() {
         return match requests::read_decimal(line, 2, to) {
-            Decimal::Number(lent) => is_evaluation(rt, line, to + 1, lent),
-            Decimal::Malformed => Ok(false),
+            Some(lent) => is_evaluation(rt, line, to + 1, lent),
+            None => Ok(false),
         };
     }
     Ok(false)
@@ -394,8 +336,8 @@ fn is_evaluation(rt: &impl Print, line: &[u8], from: usize, lent: usize) -> io::
     let to = requests::field_end(line, from);
     if to < line.len() {
         return match requests::read_decimal(line, from, to) {
-            Decimal::Number(budget) => is_room(rt, line, to + 1, lent, budget),
-            Decimal::Malformed => Ok(false),
+            Some(budget) => is_room(rt, line, to + 1, lent, budget),
+            None => Ok(false),
         };
     }
     Ok(false)
@@ -412,8 +354,8 @@ fn is_room(
     let to = requests::field_end(line, from);
     if to < line.len() {
         return match requests::read_decimal(line, from, to) {
-            Decimal::Number(room) => is_evaluated(rt, line, to + 1, lent, budget, room),
-            Decimal::Malformed => Ok(false),
+            Some(room) => is_evaluated(rt, line, to + 1, lent, budget, room),
+            None => Ok(false),
         };
     }
     Ok(false)
@@ -434,11 +376,11 @@ fn is_evaluated(
         return Ok(false);
     }
     match requests::read_hex(&mut sheet, line, from, to) {
-        Hex::Bytes(n) => {
+        Some(n) => {
             answer_evaluation(rt, &sheet[..n], lent, budget, room)?;
             Ok(true)
         }
-        Hex::Malformed => Ok(false),
+        None => Ok(false),
     }
 }
 
@@ -502,43 +444,25 @@ fn evaluate_into(
         tokens,
         out,
     ) {
-        Evaluated::Accepted(n, work, inferences) => accepted(rt, &out[..n], work, inferences),
-        Evaluated::Refused(why, place) => refused(rt, why, place),
+        Ok(a) => accepted(rt, out, a),
+        Err(r) => refused(rt, "E", r),
     }
 }
 
-// The line for a certificate.
-fn accepted(
-    rt: &impl Print,
-    certificate: &[u8],
-    work: Work,
-    inferences: Inferences,
-) -> io::Result<()>
-    requires { length certificate.now ≤ 65536 }
+// The line for a certificate, which stands at the front of the output.
+fn accepted(rt: &impl Print, out: &[u8], a: Accepted) -> io::Result<()>
+    requires { (a.length ≤ length out.now) × (length out.now ≤ 65536) }
 {
     let mut text = [0u8; 2 * ROOM];
-    let n = certificate.len();
-    requests::write_hex(&mut text, certificate);
-    rt.write_all(b"E")?;
-    number(rt, 0)?;
-    number(rt, n)?;
-    number(rt, work.0)?;
-    number(rt, inferences.0)?;
-    rt.write_all(b" ")?;
+    let n = a.length;
+    requests::write_hex(&mut text, &out[..n]);
+    print!(rt; "E 0 {n} {} {} ", a.work.0, a.inferences.0)?;
     rt.write_all(&text[..2 * n])?;
     rt.write_all(b"\n")
 }
 
-// The line for a refusal of an evaluation.
-fn refused(rt: &impl Print, why: usize, place: usize) -> io::Result<()> {
-    rt.write_all(b"E")?;
-    number(rt, why)?;
-    number(rt, place)?;
-    rt.write_all(b"\n")
-}
-
-// A blank and a number.
-fn number(rt: &impl Print, n: usize) -> io::Result<()> {
-    rt.write_all(b" ")?;
-    rt.print(n)
+// The line's end for a refusal: its number and place.
+fn refused(rt: &impl Print, what: &str, r: Refusal) -> io::Result<()> {
+    let Refusal(why, place) = r;
+    println!(rt; "{what} {} {place}", why.number())
 }

@@ -1,4 +1,4 @@
-pub mod Spans
-pub mod Decoding
 pub mod Counting
 pub mod Hexed
+pub mod Decoding
+pub mod Spans

@@ -1,34 +1,19 @@
--- Where a field ends: the search for a blank goes on from where it stands.
-use Prim.Native.Nat.{ℕ, ◌+◌, ◌≤◌, ◌<◌}
-use native.Mathlib.Omega.{arith}
-use native.Mathlib.Numerals.{add-one}
-use mathlib.Core.Path.{◌≡◌, refl, sym, ◌∙◌}
-use mathlib.Core.List.{List}
-use lib.ListN.{length, get_or, drop, drop_of_length-le}
+-- How many characters come before the first blank, from a place on.
+use Rattle.std.proofs.Common.{◌≡◌, ℕ, ◌+◌, ◌<◌, ◌≤◌, List, length, get_or, drop, add-one, ne_eqb}
+use lib.ListN.{drop_of_length-le}
 use lib.Seq.{drop-cons}
-use borrow.Author.Tests.{ne_eqb}
-use Rattle.requests.specs.Fields.{pick, span}
+use Rattle.requests.specs.Fields.{span}
 
--- from a place on, no blank stood before place i
-pub record Passed (line : List ℕ) (from i : ℕ) : Type 0 where
-  pub least : from ≤ i
-  pub same : from + span (drop from line) ≡ i + span (drop i line)
+pub span_blank : (line : List ℕ) (i : ℕ) → i < length line → get_or line i 0 ≡ 32 → span (drop i line) ≡ 0
+unfolding span
+span_blank line i h e = rw (drop-cons line i 0 h, e)
 
-module _ (line : List ℕ) (from : ℕ) where
-  pub passed_none : Passed line from from
-  passed_none = record { least = omega arith; same = refl }
+pub span_more : (line : List ℕ) (i : ℕ) → i < length line → (get_or line i 0 ≡ 32 → ⊥) → span (drop i line) ≡ span (drop (i + 1) line) + 1
+unfolding span
+span_more line i h e = rw (drop-cons line i 0 h, ne_eqb (get_or line i 0) 32 e, add-one i, add-one)
 
-  module _ (i : ℕ) (p : Passed line from i) where
-    pub passed_blank : i < length line → get_or line i 0 ≡ 32 → i ≡ from + span (drop from line)
-    unfolding span pick
-    passed_blank h e = sym (p.same ∙ rw (drop-cons line i 0 h, e) (omega arith))
+pub span_past : (line : List ℕ) (i : ℕ) → length line ≤ i → span (drop i line) ≡ 0
+unfolding span
+span_past line i h = rw (drop_of_length-le line {i = i} h)
 
-    pub passed_more : i < length line → (get_or line i 0 ≡ 32 → ⊥) → Passed line from (i + 1)
-    unfolding span pick
-    passed_more h e =
-        let l = p.least in
-        record { least = omega arith; same = p.same ∙ rw (drop-cons line i 0 h, ne_eqb (get_or line i 0) 32 e) (rw (add-one i) (omega arith)) }
-
-    pub passed_all : length line ≤ i → i ≡ from + span (drop from line)
-    unfolding span
-    passed_all h = sym (p.same ∙ rw (drop_of_length-le line {i = i} h) (omega arith))
+pub ruleset spans = (span_blank, span_more, span_past)

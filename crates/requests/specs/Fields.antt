@@ -1,37 +1,31 @@
 -- A line of text: its fields, cut at blanks, and bytes written in hexadecimal.
-use Rattle.std.specs.Prelude.{ℕ, suc, ◌+◌, ◌-◌, ◌*◌, ◌/◌, ◌%◌, List, [], ◌∷◌, ◌++◌, Bool, true, false, ◌&&◌, length, get_or, ltb, leb, eqb, ◌≡◌}
+use Rattle.std.specs.Prelude.{ℕ, suc, ◌+◌, ◌-◌, ◌*◌, ◌/◌, ◌%◌, List, [], ◌∷◌, ◌++◌, Bool, true, false, length, get_or, ltb, leb, eqb, cond, ◌≡◌, Option, Some, None}
 use Rattle.words.specs.Front.{front}
-use Rattle.requests.specs.declared.Hex.{Hex}
-use Rattle.requests.specs.declared.Hex.TheVariants.{Bytes, Malformed}
 
 -- the first where a test holds, else the second
-unfoldable pub pick : {A : Type 0} → Bool → A → A → A
-pick true a b = a
-pick false a b = b
+abbrev pub pick : {A : Type 0} → Bool → A → A → A
+pick test a b = cond test a b
 
 -- how many characters come before the first blank
 unfoldable pub span : List ℕ → ℕ
-unfolding pick
 span [] = 0
 span (c ∷ cs) = pick (eqb c 32) 0 (suc (span cs))
 
--- a hexadecimal digit's value, 0 to 9 and a to f; 16 for any other character
-unfoldable pub letter : ℕ → ℕ
-unfolding pick
-letter c = pick (leb 97 c) (pick (leb c 102) (c - 87) 16) 16
+-- a hexadecimal digit's value, 0 to 9 and a to f
+abbrev pub letter : ℕ → Option ℕ
+letter c = pick (leb 97 c) (pick (leb c 102) (Some (c - 87)) None) None
 
-unfoldable pub nibble : ℕ → ℕ
-unfolding pick letter
-nibble c = pick (leb 48 c) (pick (leb c 57) (c - 48) (letter c)) 16
+abbrev pub nibble : ℕ → Option ℕ
+nibble c = pick (leb 48 c) (pick (leb c 57) (Some (c - 48)) (letter c)) None
 
--- two digits' byte; 256 where one is no digit
-unfoldable pub byte_of : ℕ → ℕ → ℕ
-unfolding pick
-byte_of h l = pick (ltb h 16) (pick (ltb l 16) (16 * h + l) 256) 256
+-- two digits' byte
+abbrev pub byte_of : Option ℕ → Option ℕ → Option ℕ
+byte_of (Some h) (Some l) = Some (16 * h + l)
+byte_of (Some h) None = None
+byte_of None l = None
 
 -- the byte of the two digits at a place
-unfoldable pub pair_at : List ℕ → ℕ → ℕ
-unfolding nibble byte_of
+abbrev pub pair_at : List ℕ → ℕ → Option ℕ
 pair_at line at = byte_of (nibble (get_or line at 0)) (nibble (get_or line (at + 1) 0))
 
 -- bytes read, and whether all could be
@@ -39,20 +33,19 @@ pub record Decoded : Type 0 where
   pub bytes : List ℕ
   pub whole : Bool
 
-unfoldable pub decoded : (List ℕ → Decoded) → List ℕ → ℕ → Bool → Decoded
-decoded rest done b true = rest (done ++ (b ∷ []))
-decoded rest done b false = record { bytes = done; whole = false }
+-- a byte more, where there is one and room for it
+abbrev pub decoded : (List ℕ → Decoded) → List ℕ → Option ℕ → Bool → Decoded
+decoded rest done (Some b) true = rest (done ++ (b ∷ []))
+decoded rest done (Some b) false = record { bytes = done; whole = false }
+decoded rest done None room = record { bytes = done; whole = false }
 
 -- n pairs of digits from a place on, as long as they are digits and there is room
 unfoldable pub decoding : List ℕ → ℕ → ℕ → ℕ → List ℕ → Decoded
-unfolding decoded pair_at
 decoding line room ℕ.zero at done = record { bytes = done; whole = true }
-decoding line room (ℕ.suc n) at done =
-    decoded (decoding line room n (at + 2)) done (pair_at line at) (ltb (pair_at line at) 256 && ltb (length done) room)
+decoding line room (ℕ.suc n) at done = decoded (decoding line room n (at + 2)) done (pair_at line at) (ltb (length done) room)
 
 -- the field from a place to another: a dash for no bytes, or pairs of digits
 unfoldable pub field : List ℕ → ℕ → ℕ → ℕ → Decoded
-unfolding pick decoding
 field line room from to =
     let none : Bool → Decoded = λ whole. record { bytes = []; whole = whole } in
     pick (ltb from to)
@@ -61,12 +54,12 @@ field line room from to =
     (pick (eqb ((to - from) % 2) 0) (decoding line room ((to - from) / 2) from []) (none false)))
     (none false)
 
--- the answer for n bytes
-unfoldable pub told : ℕ → Bool → Hex
-told n true = Bytes n
-told n false = Malformed
+-- how many bytes there are, where all could be read
+abbrev pub told : ℕ → Bool → Option ℕ
+told n true = Some n
+told n false = None
 
 -- what reading answers, and the buffer after it
-pub record Reads (d : Decoded) (r : Hex) (t₀ t : List ℕ) : Type 0 where
+pub record Reads (d : Decoded) (r : Option ℕ) (t₀ t : List ℕ) : Type 0 where
   pub answer : r ≡ told (length d.bytes) d.whole
   pub bytes : t ≡ front d.bytes t₀

@@ -1,222 +1,136 @@
 // Requests as lines of text: fields cut at single blanks, bytes in hexadecimal, a dash for no bytes, numbers in decimal.
-// A field that is not of this form is malformed, and so is one that is longer than the buffer it is read into, or a number over 64 bits.
+// A field that is not of this form says nothing, and so does one that is longer than the buffer it is read into, or a number over 64 bits.
 #![tactic(auto)]
 
 ghost use Rattle.std.specs.Prelude.{◌≡◌, ◌+◌, ◌-◌, ◌*◌, ◌^◌, ◌<◌, ◌≤◌, [], eqb, length, get_or, drop};
 ghost use Rattle.requests.specs.Decimals.{counted, decimal};
 ghost use Rattle.requests.specs.Writing.{digit_of, hex_of};
 ghost use Rattle.words.specs.Front.{front};
-ghost use Rattle.requests.specs.Fields.{span, letter, nibble, byte_of, pair_at, field, decoding, told, Reads};
-
-// How many bytes a field says; or that it says none.
-#[derive(Drop)]
-pub enum Hex {
-    Bytes(usize),
-    Malformed,
-}
-
-// The number that a field says; or that it says none.
-#[derive(Drop)]
-pub enum Decimal {
-    Number(usize),
-    Malformed,
-}
+ghost use Rattle.requests.specs.Fields.{span, nibble, pair_at, field, decoding, told, Reads};
 
 // What cuts a line into fields.
-const BLANK: usize = b' ' as usize;
+const BLANK: u8 = b' ';
 
 // What says that there are no bytes.
-const DASH: usize = b'-' as usize;
-
-// The digits 0 to 9, then a to f; a letter's value is what is over the tenth character before a.
-const ZERO: usize = b'0' as usize;
-
-const NINE: usize = b'9' as usize;
-
-const LETTER_A: usize = b'a' as usize;
-
-const LETTER_F: usize = b'f' as usize;
-
-const BEFORE_A: usize = LETTER_A - 10;
-
-// The largest number of 64 bits.
-const LARGEST: usize = 18446744073709551615;
+const DASH: u8 = b'-';
 
 // The place of the first blank from a place on; the line's end where there is none.
+#[tactic(auto, using(crate::proofs::Spans::spans))]
 pub fn field_end(line: &[u8], from: usize) -> usize
     ensures { result ≡ from + span (drop from line.now) }
 {
-    let mut i = from;
-    while i < line.len() {
-        if wide(line[i]) == BLANK {
+    for i in from..line.len() {
+        if line[i] == BLANK {
             return i;
         }
-        i += 1;
     }
-    i
+    from.max(line.len())
 }
 
-// The bytes of the field from a place to another, at the front of out.
-pub fn read_hex(out: &mut [u8], line: &[u8], from: usize, to: usize) -> Hex
+// How many bytes the field from a place to another says; they are then at the front of out.
+#[tactic(auto, unfolding(crate::specs::Fields::field))]
+pub fn read_hex(out: &mut [u8], line: &[u8], from: usize, to: usize) -> Option<usize>
     ensures { Reads (field line.now (length out.old) from to) result out.old out.new }
 {
-    if from < to {
-        let long = to - from;
-        if long == 1 {
-            return dash(line, from);
-        }
-        if long % 2 == 0 {
-            return pairs(out, line, from, to, long / 2);
-        }
-        return Hex::Malformed;
+    match to.saturating_sub(from) {
+        0 => None,
+        1 => dash(line, from),
+        long if long % 2 == 0 => pairs(out, line, from, long / 2),
+        _ => None,
     }
-    Hex::Malformed
 }
 
 // The number of the field from a place to another, in decimal digits.
-pub fn read_decimal(line: &[u8], from: usize, to: usize) -> Decimal
+pub fn read_decimal(line: &[u8], from: usize, to: usize) -> Option<usize>
     ensures { result ≡ decimal line.now from to }
 {
     if from < to {
-        return digits(line, from, to);
+        digits(line, from, to)
+    } else {
+        None
     }
-    Decimal::Malformed
 }
 
 // The digits from a place to another, the highest first.
-fn digits(line: &[u8], from: usize, to: usize) -> Decimal
+#[tactic(auto, using(crate::proofs::Counting::counting))]
+fn digits(line: &[u8], from: usize, to: usize) -> Option<usize>
     requires { from < to }
     ensures { result ≡ counted line.now (to - from) from 0 }
 {
-    let mut i = from;
-    let mut v = 0;
-    while i < to {
-        let d = digit(character(line, i));
+    let mut v = 0usize;
+    for i in from..to {
+        let d = digit(*line.get(i)?)?;
         if 9 < d {
-            return Decimal::Malformed;
+            return None;
         }
-        if (LARGEST - d) / 10 < v {
-            return Decimal::Malformed;
-        }
-        v = 10 * v + d;
-        i += 1;
+        v = v.checked_mul(10)?.checked_add(usize::from(d))?;
     }
-    Decimal::Number(v)
+    Some(v)
 }
 
 // The bytes s in hexadecimal, two digits each, at the front of out, which must have room for them.
+#[tactic(auto, using(crate::proofs::Hexed::hex_put))]
 pub fn write_hex(out: &mut [u8], s: &[u8])
     requires { 2 * length s.now ≤ length out.old }
     ensures { out.new ≡ front (hex_of s.now) out.old }
 {
-    let mut i = 0;
-    let mut at = 0;
-    while i < s.len() {
-        let b = wide(s[i]);
-        out[at] = written(b / 16) as u8;
-        out[at + 1] = written(b % 16) as u8;
-        i += 1;
-        at += 2;
+    for (i, b) in s.iter().enumerate() {
+        out[2 * i] = written(b / 16);
+        out[2 * i + 1] = written(b % 16);
     }
 }
 
 // The character of a hexadecimal digit's value.
-fn written(v: usize) -> usize
+fn written(v: u8) -> u8
     requires { v < 16 }
-    ensures { (result ≡ digit_of v) × (result < 256) }
+    ensures { result ≡ digit_of v }
 {
-    if v < 10 { v + ZERO } else { v + BEFORE_A }
+    if v < 10 { v + b'0' } else { v - 10 + b'a' }
 }
 
 // A dash, which says no bytes.
-fn dash(line: &[u8], at: usize) -> Hex
+fn dash(line: &[u8], at: usize) -> Option<usize>
     ensures { result ≡ told 0 (eqb (get_or line.now at 0) 45) }
 {
-    if character(line, at) == DASH {
-        return Hex::Bytes(0);
+    if *line.get(at)? == DASH {
+        Some(0)
+    } else {
+        None
     }
-    Hex::Malformed
 }
 
 // So many pairs of digits from a place on, as bytes.
-fn pairs(out: &mut [u8], line: &[u8], from: usize, to: usize, n: usize) -> Hex
-    requires { from + 2 * n ≤ to }
+fn pairs(out: &mut [u8], line: &[u8], from: usize, n: usize) -> Option<usize>
+    requires { from + 2 * n < 2 ^ 64 }
     ensures { Reads (decoding line.now (length out.old) n from []) result out.old out.new }
 {
-    let mut i = 0;
-    let mut at = from;
-    while i < n {
-        let b = pair(line, at);
-        if 256 <= b {
-            return Hex::Malformed;
-        }
+    for i in 0..n {
+        let b = pair(line, from + 2 * i)?;
         if out.len() <= i {
-            return Hex::Malformed;
+            return None;
         }
-        out[i] = b as u8;
-        i += 1;
-        at += 2;
+        out[i] = b;
     }
-    Hex::Bytes(n)
+    Some(n)
 }
 
-// The byte of the two digits at a place; 256 where one is no digit.
-fn pair(line: &[u8], at: usize) -> usize
+// The byte of the two digits at a place.
+fn pair(line: &[u8], at: usize) -> Option<u8>
     requires { at + 1 < 2 ^ 64 }
     ensures { result ≡ pair_at line.now at }
 {
-    byte(digit(character(line, at)), digit(character(line, at + 1)))
+    let high = digit(*line.get(at)?)?;
+    let low = digit(*line.get(at + 1)?)?;
+    Some(16 * high + low)
 }
 
-// The character at a place; 0 past the line's end.
-fn character(line: &[u8], at: usize) -> usize
-    ensures { result ≡ get_or line.now at 0 }
-{
-    if at < line.len() { wide(line[at]) } else { 0 }
-}
-
-// A hexadecimal digit's value, 0 to 9 and a to f; 16 for any other character.
-fn digit(c: usize) -> usize
+// A hexadecimal digit's value, 0 to 9 and a to f.
+fn digit(c: u8) -> Option<u8>
     ensures { result ≡ nibble c }
 {
-    if ZERO <= c {
-        if c <= NINE {
-            return c - ZERO;
-        }
-        return last_six(c);
+    match c {
+        b'0'..=b'9' => Some(c - b'0'),
+        b'a'..=b'f' => Some(c - b'a' + 10),
+        _ => None,
     }
-    16
-}
-
-// The value of a digit from a to f; 16 for any other character.
-fn last_six(c: usize) -> usize
-    ensures { result ≡ letter c }
-{
-    if LETTER_A <= c {
-        if c <= LETTER_F {
-            return c - BEFORE_A;
-        }
-        return 16;
-    }
-    16
-}
-
-// The byte of two digits' values; 256 where one is no digit.
-fn byte(h: usize, l: usize) -> usize
-    ensures { result ≡ byte_of h l }
-{
-    if h < 16 {
-        if l < 16 {
-            return 16 * h + l;
-        }
-        return 256;
-    }
-    256
-}
-
-// A character's number.
-fn wide(c: u8) -> usize
-    ensures { (result ≡ c) × (result < 256) }
-{
-    c as usize
 }

@@ -19,10 +19,11 @@ use Rattle.forms.proofs.Records.{kind_c_to}
 use Rattle.forms.proofs.Positions.{having_paid}
 use Rattle.forms.proofs.Trees.{same_at, number_at, growing_at, growing_formed}
 use Rattle.forms.proofs.Growth.{interned}
-use Rattle.rules.specs.declared.Shape.{Shape}
-use Rattle.rules.specs.declared.Shape.TheVariants.{Known, New, Unfit}
-use Rattle.rules.specs.declared.Applied.{Applied}
-use Rattle.rules.specs.declared.Applied.TheVariants.{Given, Misshapen, Missing}
+use Rattle.std.specs.Prelude.{Option, Some, None, Result, Ok, Err}
+use Rattle.language.specs.declared.refusal.Why.{Why}
+use Rattle.language.specs.declared.refusal.Why.TheVariants.{WrongShapes, PremiseMissing}
+use Rattle.rules.specs.declared.Conclusion.{Conclusion}
+use Rattle.rules.specs.declared.Conclusion.TheVariants.{Known, New}
 use Rattle.rules.specs.Shapes.{Safe, shaped, rows}
 use Rattle.rules.specs.Base.{base_of, within, asked, premises, grounds}
 use Rattle.rules.specs.Applied.{Ready, Outcome, whether, outcome, Comes, Ruling}
@@ -68,7 +69,7 @@ module _ (n : ℕ) (t : List ℕ) (room : n ≤ length t) (fs : List Form) (T : 
 
   module _ (x y z : ℕ) (hx : x < n) (hy : y < n) (hz : z < n) (b : ℕ) (g : (j : ℕ) → j < b → get_or s j 0 < n) where
     met_are : (m : ℕ) → members (premised (tree fs x) (tree fs y) (tree fs z) m) (base_of fs s b) ≡ asked (m % 2) x s b && (asked (m / 2 % 2) y s b && asked (m / 4) z s b)
-    unfolding premised asked
+    unfolding premised
     met_are m = three (eqb (m % 2) 0) (eqb (m / 2 % 2) 0) (eqb (m / 4) 0)
       where
         three : (i j k : Bool) → members (asking i (tree fs x) (asking j (tree fs y) (asking k (tree fs z) []))) (base_of fs s b) ≡ (i || within x s b) && ((j || within y s b) && (k || within z s b))
@@ -80,7 +81,6 @@ module _ (n : ℕ) (t : List ℕ) (room : n ≤ length t) (fs : List Form) (T : 
             ∙ ap (λ (u : Bool). (j || member (tree fs y) (base_of fs s b)) && u) (members_last k (tree fs z) (base_of fs s b))))
 
     pub grounds_are : (r : ℕ) → members (get_or (premises_of (tree fs x) (tree fs y) (tree fs z)) r []) (base_of fs s b) ≡ grounds s b r x y z
-    unfolding grounds
     grounds_are r = ap (λ (u : List Form). members u (base_of fs s b)) (premises_at (tree fs x) (tree fs y) (tree fs z) r) ∙ met_are (get_or premises r 0)
 
 -- ---- what the code may do
@@ -127,13 +127,13 @@ module _ (t : List ℕ) (n : ℕ) (s : List ℕ) (b r x y z : ℕ) (ready : Read
     count = length-take-le n t room
 
     -- the shape at the numbers says the rule at the trees
-    pub says : (u : Shape) → shaped t r x y z ≡ u → Says fs n ps u R
+    pub says : (u : Option Conclusion) → shaped t r x y z ≡ u → Says fs n ps u R
     unfolding shaped ruled
     says u e =
         let a = ready.arguments in
         let l = count in
         let two = T.enough in
-        subst (λ (u : Shape). Says fs n ps u R) e
+        subst (λ (u : Option Conclusion). Says fs n ps u R) e
         (agree_at fs n (premises_of (tree fs x) (tree fs y) (tree fs z)) (rows t x y z) (table (tree fs x) (tree fs y) (tree fs z))
         (rules_agree n t room small fs T x y z a.0 a.1 a.2 (omega arith)) r)
 
@@ -141,7 +141,7 @@ module _ (t : List ℕ) (n : ℕ) (s : List ℕ) (b r x y z : ℕ) (ready : Read
     premises_met = let a = ready.arguments in grounds_are n t room fs T s x y z a.0 a.1 a.2 b ready.based r
 
     -- the table as it was
-    same_table : (o : Outcome) (a : Applied) (q : Form) → o ≡ record { answer = a; words = ws; conclusion = q } → ((p m : ℕ) → a ≡ Given p m → (p < m) × (tree fs p ≡ q)) → Comes o n fs t t a
+    same_table : (o : Outcome) (a : Result Formed Why) (q : Form) → o ≡ record { answer = a; words = ws; conclusion = q } → ((f : Formed) → a ≡ Ok f → (f.at < f.size) × (tree fs f.at ≡ q)) → Comes o n fs t t a
     same_table o a q e h =
         let l = count in
         subst (λ (o : Outcome). Comes o n fs t t a) (sym e)
@@ -151,45 +151,42 @@ module _ (t : List ℕ) (n : ℕ) (s : List ℕ) (b r x y z : ℕ) (ready : Read
           more = [];
           table = rw (append-nil fs) T;
           paid = omega arith;
-          is = λ p m g. rw (append-nil fs) (h p m g);
+          is = λ f g. rw (append-nil fs) (h f g);
         })
 
-    unfit : shaped t r x y z ≡ Unfit → Comes (outcome R β ws) n fs t t Misshapen
+    unfit : shaped t r x y z ≡ None → Comes (outcome R β ws) n fs t t (Err WrongShapes)
     unfolding Says outcome
-    unfit e = same_table _ Misshapen verum (ap (λ (u : Ruled). outcome u β ws) (says Unfit e)) (λ p m g. absurd (let z : ◌≡◌ {A = ℕ} 0 1 = cc in omega arith))
+    unfit e = same_table _ (Err WrongShapes) verum (ap (λ (u : Ruled). outcome u β ws) (says None e)) (λ f g. absurd cc)
 
     -- a conclusion, and whether the premises are in the base
     given : (q : Form) (v : Bool) → R ≡ gives ps q → grounds s b r x y z ≡ v → outcome R β ws ≡ whether v q ws
     unfolding outcome
     given q v e g = ap (λ (u : Ruled). outcome u β ws) e ∙ ap (λ (v : Bool). whether v q ws) (premises_met ∙ g)
 
-    missing : (q : Form) → R ≡ gives ps q → grounds s b r x y z ≡ false → Comes (outcome R β ws) n fs t t Missing
+    absent : (q : Form) → R ≡ gives ps q → grounds s b r x y z ≡ false → Comes (outcome R β ws) n fs t t (Err PremiseMissing)
     unfolding whether
-    missing q e g = same_table _ Missing q (given q false e g) (λ p m h. absurd (let z : ◌≡◌ {A = ℕ} 0 1 = cc in omega arith))
+    absent q e g = same_table _ (Err PremiseMissing) q (given q false e g) (λ f h. absurd cc)
 
-    known_given : (p : ℕ) → shaped t r x y z ≡ Known p → grounds s b r x y z ≡ true → Comes (outcome R β ws) n fs t t (Given p n)
+    missing : (u : Conclusion) → shaped t r x y z ≡ Some u → grounds s b r x y z ≡ false → Comes (outcome R β ws) n fs t t (Err PremiseMissing)
+    unfolding Says
+    missing (Known p) e g = absent (tree fs p) (says (Some (Known p)) e).1 g
+    missing (New w) e g = let k = says (Some (New w)) e in absent (formed fs k.0) k.3 g
+
+    known_given : (p : ℕ) → shaped t r x y z ≡ Some (Known p) → grounds s b r x y z ≡ true → Comes (outcome R β ws) n fs t t (Ok (record { at = p; size = n }))
     unfolding Says whether
     known_given p e g =
-        let k = says (Known p) e in
+        let k = says (Some (Known p)) e in
         let l = count in
         let h : p < length ws = omega (arith, k.0) in
-        same_table _ (Given p n) (tree fs p) (given (tree fs p) true k.1 g ∙ rw (growing_at ws fs T p h, number_at ws fs T p h, l))
-        (λ p' m d. let z : p' ≡ p = cc in let v : m ≡ n = cc in (omega arith, ap (tree fs) z))
-
-    known_missing : (p : ℕ) → shaped t r x y z ≡ Known p → grounds s b r x y z ≡ false → Comes (outcome R β ws) n fs t t Missing
-    unfolding Says
-    known_missing p e g = missing (tree fs p) (says (Known p) e).1 g
-
-    new_missing : (w : ℕ) → shaped t r x y z ≡ New w → grounds s b r x y z ≡ false → Comes (outcome R β ws) n fs t t Missing
-    unfolding Says
-    new_missing w e g = let k = says (New w) e in missing (formed fs k.0) k.3 g
+        same_table _ (Ok (record { at = p; size = n })) (tree fs p) (given (tree fs p) true k.1 g ∙ rw (growing_at ws fs T p h, number_at ws fs T p h, l))
+        (λ f d. let z : f ≡ record { at = p; size = n } = cc in rw z (omega arith, refl))
 
     -- a new conclusion, interned
-    new_given : (w : ℕ) (u : List ℕ) (f : Formed) → shaped t r x y z ≡ New w → grounds s b r x y z ≡ true → Interned w n t u f → Comes (outcome R β ws) n fs t u (Given f.at f.size)
+    new_given : (w : ℕ) (u : List ℕ) (f : Formed) → shaped t r x y z ≡ Some (New w) → grounds s b r x y z ≡ true → Interned w n t u f → Comes (outcome R β ws) n fs t u (Ok f)
     unfolding Says whether
-    new_given w u f e g i = go (says (New w) e)
+    new_given w u f e g i = go (says (Some (New w)) e)
       where
-        go : Says fs n ps (New w) R → Comes (outcome R β ws) n fs t u (Given f.at f.size)
+        go : Says fs n ps (Some (New w)) R → Comes (outcome R β ws) n fs t u (Ok f)
         go k =
             let l = count in
             let h = ready.room in
@@ -200,41 +197,36 @@ module _ (t : List ℕ) (n : ℕ) (s : List ℕ) (b r x y z : ℕ) (ready : Read
             let grew : growing (formed fs q) ws ≡ having (code q) ws = growing_formed ws fs T q d in
             let numbered : number_of (formed fs q) (having (code q) ws) ≡ position (code q) ws =
             rw (← G.is) (number_at (having (code q) ws) (fs ++ G.more) G.table (position (code q) ws) G.low) in
-            let out : outcome R β ws ≡ record { answer = Given (position (code q) ws) (length (having (code q) ws)); words = having (code q) ws; conclusion = formed fs q } =
+            let out : outcome R β ws ≡ record { answer = Ok (record { at = position (code q) ws; size = length (having (code q) ws) }); words = having (code q) ws; conclusion = formed fs q } =
             given (formed fs q) true k.3 g ∙ rw (grew, numbered) in
-            subst (λ (o : Outcome). Comes o n fs t u (Given f.at f.size)) (sym out)
+            subst (λ (o : Outcome). Comes o n fs t u (Ok f)) (sym out)
             (record {
               answer = rw (j.at, j.size);
               words = j.words;
               more = G.more;
               table = G.table;
               paid = let v = having_paid (code q) ws in omega arith;
-              is = λ p m d.
-                  let z : p ≡ position (code q) ws = cc in
-                  let v : m ≡ length (having (code q) ws) = cc in
-                  let low = G.low in
-                  (omega arith, ap (tree (fs ++ G.more)) z ∙ G.is);
+              is = λ g d.
+                  let z : g ≡ record { at = position (code q) ws; size = length (having (code q) ws) } = cc in
+                  rw z (G.low, G.is);
             })
 
-  -- the five ways of the code
-  pub ruling_unfit : shaped t r x y z ≡ Unfit → Ruling t n s b r x y z t Misshapen
+  -- the four ways of the code
+  pub ruling_unfit : shaped t r x y z ≡ None → Ruling t n s b r x y z t (Err WrongShapes)
   ruling_unfit e = record { rules = λ fs T. unfit fs T e }
 
-  pub ruling_known : (p : ℕ) → shaped t r x y z ≡ Known p → grounds s b r x y z ≡ true → Ruling t n s b r x y z t (Given p n)
+  pub ruling_known : (p : ℕ) → shaped t r x y z ≡ Some (Known p) → grounds s b r x y z ≡ true → Ruling t n s b r x y z t (Ok (record { at = p; size = n }))
   ruling_known p e g = record { rules = λ fs T. known_given fs T p e g }
 
-  pub ruling_known_missing : (p : ℕ) → shaped t r x y z ≡ Known p → grounds s b r x y z ≡ false → Ruling t n s b r x y z t Missing
-  ruling_known_missing p e g = record { rules = λ fs T. known_missing fs T p e g }
-
-  pub ruling_new : (w : ℕ) (u : List ℕ) (f : Formed) → shaped t r x y z ≡ New w → grounds s b r x y z ≡ true → Interned w n t u f → Ruling t n s b r x y z u (Given f.at f.size)
+  pub ruling_new : (w : ℕ) (u : List ℕ) (f : Formed) → shaped t r x y z ≡ Some (New w) → grounds s b r x y z ≡ true → Interned w n t u f → Ruling t n s b r x y z u (Ok f)
   ruling_new w u f e g i = record { rules = λ fs T. new_given fs T w u f e g i }
 
-  pub ruling_new_missing : (w : ℕ) → shaped t r x y z ≡ New w → grounds s b r x y z ≡ false → Ruling t n s b r x y z t Missing
-  ruling_new_missing w e g = record { rules = λ fs T. new_missing fs T w e g }
+  pub ruling_missing : (u : Conclusion) → shaped t r x y z ≡ Some u → grounds s b r x y z ≡ false → Ruling t n s b r x y z t (Err PremiseMissing)
+  ruling_missing u e g = record { rules = λ fs T. missing fs T u e g }
 
   -- a new conclusion's word fits a cell
-  pub new_fits : (w : ℕ) → shaped t r x y z ≡ New w → w < 2 ^ 32
+  pub new_fits : (w : ℕ) → shaped t r x y z ≡ Some (New w) → w < 2 ^ 32
   unfolding Says
   new_fits w e =
-      let k = says ready.formed.trees ready.formed.table (New w) e in
+      let k = says ready.formed.trees ready.formed.table (Some (New w)) e in
       rw k.1 (code_fits n k.0 small k.2)

@@ -4,11 +4,13 @@ use mathlib.Core.Path.{◌≡◌, refl, sym, ◌∙◌}
 use mathlib.Core.List.{List, [], ◌∷◌}
 use Rattle.language.specs.Form.{Form, verum}
 use Rattle.language.specs.Rules.{ruled}
-use Rattle.rules.specs.declared.Applied.{Applied}
+use Rattle.std.specs.Prelude.{Result}
+use Rattle.language.specs.declared.refusal.Why.{Why}
+use Rattle.forms.specs.declared.Formed.{Formed}
 use Rattle.rules.specs.Applied.{Ready, Ruling}
 
 -- what is answered and what the table then holds
-pub ruling_unique : (t₀ : List ℕ) (n : ℕ) (s : List ℕ) (b r x y z : ℕ) (t t' : List ℕ) (a a' : Applied) → Ready t₀ n s b x y z → Ruling t₀ n s b r x y z t a → Ruling t₀ n s b r x y z t' a' → (a ≡ a') × (t ≡ t')
+pub ruling_unique : (t₀ : List ℕ) (n : ℕ) (s : List ℕ) (b r x y z : ℕ) (t t' : List ℕ) (a a' : Result Formed Why) → Ready t₀ n s b x y z → Ruling t₀ n s b r x y z t a → Ruling t₀ n s b r x y z t' a' → (a ≡ a') × (t ≡ t')
 ruling_unique t₀ n s b r x y z t t' a a' ready one other =
     let c = one.rules ready.formed.trees ready.formed.table in
     let d = other.rules ready.formed.trees ready.formed.table in

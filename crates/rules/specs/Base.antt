@@ -22,13 +22,11 @@ abbrev pub premises : List ℕ
 premises = 1 ∷ (3 ∷ (3 ∷ (1 ∷ (3 ∷ (1 ∷ (1 ∷ (1 ∷ (2 ∷ (7 ∷ (3 ∷ (1 ∷ (1 ∷ (0 ∷ (3 ∷ (0 ∷ [])))))))))))))))
 
 -- a premise is on the stack where it is asked
-unfoldable pub asked : ℕ → ℕ → List ℕ → ℕ → Bool
-unfolding within
+abbrev pub asked : ℕ → ℕ → List ℕ → ℕ → Bool
 asked k p s b = eqb k 0 || within p s b
 
 -- all premises of rule r are on the stack
-unfoldable pub grounds : List ℕ → ℕ → ℕ → ℕ → ℕ → ℕ → Bool
-unfolding asked
+abbrev pub grounds : List ℕ → ℕ → ℕ → ℕ → ℕ → ℕ → Bool
 grounds s b r x y z =
     let m = get_or premises r 0 in
     asked (m % 2) x s b && (asked (m / 2 % 2) y s b && asked (m / 4) z s b)

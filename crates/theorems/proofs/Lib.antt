@@ -2,6 +2,8 @@
 pub mod Lists
 pub mod Members
 pub mod Closed
+-- a refusal's number
+pub mod Refusals
 -- the buffers of a door
 pub mod Buffers
 -- plain proofs: what they prove is true, and what is derived they prove

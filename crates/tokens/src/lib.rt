@@ -22,7 +22,7 @@ pub fn hypothesis(t: &mut [u32], n: usize, p: usize) -> usize
     requires { (n + 2 ≤ length t.old) × (p < 2 ^ 32) }
     ensures { (result ≡ n + 2) × (t.new ≡ sets t.old n (2 ∷ p ∷ [])) }
 {
-    words::put2(t, n, node::HYPOTHESIS, p);
+    words::put_all(t, n, &[node::HYPOTHESIS, p]);
     n + 2
 }
 
@@ -31,7 +31,6 @@ pub fn rule(t: &mut [u32], n: usize, r: usize, count: usize, x: usize, y: usize,
     requires { (n + 5 ≤ length t.old) × (count ≤ 3) × (r < 2 ^ 32) × (x < 2 ^ 32) × (y < 2 ^ 32) × (z < 2 ^ 32) }
     ensures { (result ≡ n + 2 + count) × (t.new ≡ sets t.old n (0 ∷ r ∷ x ∷ y ∷ z ∷ [])) }
 {
-    words::put4(t, n, node::RULE, r, x, y);
-    words::put(t, n + 4, z);
+    words::put_all(t, n, &[node::RULE, r, x, y, z]);
     n + 2 + count
 }

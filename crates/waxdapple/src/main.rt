@@ -8,17 +8,15 @@
 // This program only reads, calls and writes; every answer's words are of the crate `wording`.
 #![tactic(auto)]
 
-ghost use Rattle.std.specs.Prelude.{◌≤◌, ◌≡◌, IfOk, length};
+ghost use Rattle.std.specs.Prelude.{◌≤◌, ◌<◌, ◌≡◌, IfOk, IfSome, length};
 
-use language::{Checked, Evaluated, refusal};
-use reader::SheetRead;
+use language::{Accepted, Refusal, Stands, Why};
 use records::rows;
-use requests::Decimal;
 use std::fs::OpenOptions;
 use std::io;
 use std::io::{Read, Write};
 use std::rt::Files;
-use wording::{Decoded, Reading};
+use wording::{Fault, Reading, Scan};
 
 // The front of a sheet that decides: no sheet that reads is longer than 12,297 bytes (`longest_sheet` of `theorems`), and ten bytes more are shown
 // around a place (`around_front` of `wording`).
@@ -39,20 +37,17 @@ const PAGE: usize = 4096;
 // Where a certificate that is to be kept goes, at the end of what is there: descriptor 3, by its name as a file.
 const KEPT: &str = "/proc/self/fd/3";
 
-// The largest number of 64 bits.
-const LARGEST: usize = 18446744073709551615;
-
 // What is asked.
 #[derive(Drop)]
 struct Request {
-    kind: u8,
-    sheet_form: u8,
+    kind: Option<u8>,
+    sheet_form: Option<u8>,
     sheet: usize,
-    certificate_form: u8,
+    certificate_form: Option<u8>,
     certificate: usize,
     budget: usize,
-    print: u8,
-    keep: u8,
+    print: Option<u8>,
+    keep: Option<u8>,
 }
 
 // A file of which so much is left to read.
@@ -62,27 +57,10 @@ struct Rest {
     left: usize,
 }
 
-// A file read whole; or the input ends before it does.
-#[derive(Drop)]
-enum File {
-    Whole(Reading),
-    Short,
-}
-
-// A byte of the input, or its end.
-#[derive(Drop)]
-enum Next {
-    Byte(u8),
-    End,
-}
-
 fn main(rt: HostRuntime) -> io::Result<()> {
     let mut input = rt.reader();
-    let mut turns = LARGEST;
-    while 0 < turns {
-        if answer(&rt, &mut input)? {
-            turns -= 1;
-        } else {
+    for _ in 0..u64::MAX {
+        if !answer(&rt, &mut input)? {
             return Ok(());
         }
     }
@@ -100,32 +78,24 @@ fn answer(rt: &(impl Files + Print), input: &mut impl Read) -> io::Result<bool> 
 
 // A line of the input without its end; whether there is one.
 fn read_line(input: &mut impl Read, line: &mut [u8]) -> io::Result<bool> {
-    let mut n = 0;
-    while n < line.len() {
+    for n in 0..line.len() {
         match next_byte(input)? {
-            Next::Byte(c) => {
-                if c == b'\n' {
-                    return Ok(true);
-                }
-                line[n] = c;
-            }
-            Next::End => {
-                return Ok(0 < n);
-            }
+            Some(b'\n') => return Ok(true),
+            Some(c) => line[n] = c,
+            None => return Ok(0 < n),
         }
-        n += 1;
     }
     Ok(true)
 }
 
-// The next byte.
-fn next_byte(input: &mut impl Read) -> io::Result<Next> {
+// The next byte; none at the input's end.
+fn next_byte(input: &mut impl Read) -> io::Result<Option<u8>> {
     let mut c = [0u8; 1];
     let n = read_full(input, &mut c)?;
     if n == 0 {
-        return Ok(Next::End);
+        return Ok(None);
     }
-    Ok(Next::Byte(c[0]))
+    Ok(Some(c[0]))
 }
 
 // Reads until the buffer is full or the input ends; how many bytes that gave.
@@ -145,53 +115,38 @@ fn read_full(input: &mut impl Read, buffer: &mut [u8]) -> io::Result<usize>
 
 // What a line asks.
 fn asked(line: &[u8]) -> Request {
-    let sheet_form = past_field(line, 0);
-    let sheet = past_field(line, sheet_form);
-    let certificate_form = past_field(line, sheet);
-    let certificate = past_field(line, certificate_form);
-    let budget = past_field(line, certificate);
-    let print = past_field(line, budget);
-    let keep = past_field(line, print);
+    let mut fields = line.split(|c| *c == b' ');
     Request {
-        kind: letter(line, 0),
-        sheet_form: letter(line, sheet_form),
-        sheet: number(line, sheet),
-        certificate_form: letter(line, certificate_form),
-        certificate: number(line, certificate),
-        budget: number(line, budget),
-        print: letter(line, print),
-        keep: letter(line, keep),
+        kind: letter(fields.next()),
+        sheet_form: letter(fields.next()),
+        sheet: number(fields.next()),
+        certificate_form: letter(fields.next()),
+        certificate: number(fields.next()),
+        budget: number(fields.next()),
+        print: letter(fields.next()),
+        keep: letter(fields.next()),
     }
 }
 
-// The place past the field at a place and its blank; past the line where there is none.
-fn past_field(line: &[u8], at: usize) -> usize {
-    let end = requests::field_end(line, at);
-    if end < line.len() { end + 1 } else { LARGEST }
+// A field's letter.
+fn letter(field: Option<&[u8]>) -> Option<u8> {
+    field?.first().copied()
 }
 
-// A letter; 0 past the line.
-fn letter(line: &[u8], at: usize) -> u8 {
-    if at < line.len() { line[at] } else { 0 }
-}
-
-// The number of the field at a place; the largest one where it is no number of 64 bits.
-fn number(line: &[u8], at: usize) -> usize {
-    match requests::read_decimal(line, at, requests::field_end(line, at)) {
-        Decimal::Number(n) => n,
-        Decimal::Malformed => LARGEST,
-    }
+// A field's number; the largest one where it is no number of 64 bits.
+fn number(field: Option<&[u8]>) -> usize {
+    let digits = field.unwrap_or_default();
+    requests::read_decimal(digits, 0, digits.len()).unwrap_or(usize::MAX)
 }
 
 // The request with its files, both read before either is looked at; whether another may follow.
 fn answered(rt: &(impl Files + Print), input: &mut impl Read, r: Request) -> io::Result<bool> {
     let mut sheet = [0u8; SHEET];
     let mut certificate = [0u8; CERTIFICATE];
-    let File::Whole(s) = read_file(input, &mut sheet, r.sheet_form, r.sheet)? else {
+    let Some(s) = read_file(input, &mut sheet, r.sheet_form, r.sheet)? else {
         return cut_short(rt);
     };
-    let File::Whole(c) = read_file(input, &mut certificate, r.certificate_form, r.certificate)?
-    else {
+    let Some(c) = read_file(input, &mut certificate, r.certificate_form, r.certificate)? else {
         return cut_short(rt);
     };
     let in_sheet = s.said;
@@ -222,45 +177,51 @@ fn answered(rt: &(impl Files + Print), input: &mut impl Read, r: Request) -> io:
     Ok(true)
 }
 
-// A file of so many bytes: its front, as far as out goes. White space after it ends a text's last number.
-fn read_file(input: &mut impl Read, out: &mut [u8], form: u8, long: usize) -> io::Result<File> {
+// A file of so many bytes: its front, as far as out goes; none where the input ends before the file does. White space after it ends a text's last
+// number.
+fn read_file(
+    input: &mut impl Read,
+    out: &mut [u8],
+    form: Option<u8>,
+    long: usize,
+) -> io::Result<Option<Reading>> {
     let mut reading = wording::unread();
     let mut left = long;
     while 0 < left {
-        let rest = read_piece(input, out, form, reading, left)?;
-        if left <= rest.left {
-            return Ok(File::Short);
-        }
+        let Some(rest) = read_piece(input, out, form, reading, left)? else {
+            return Ok(None);
+        };
         left = rest.left;
-        let read = rest.reading;
-        reading = read;
+        reading = rest.reading;
     }
-    Ok(File::Whole(wording::read_decimal(out, reading, b" ")))
+    Ok(Some(wording::read_decimal(out, reading, b" ")))
 }
 
-// The next piece of a file; nothing less is left where the input has ended.
+// The next piece of a file; none where the input has ended.
 fn read_piece(
     input: &mut impl Read,
     out: &mut [u8],
-    form: u8,
+    form: Option<u8>,
     reading: Reading,
     left: usize,
-) -> io::Result<Rest> {
+) -> io::Result<Option<Rest>>
+    ensures { IfOk result (λ piece. IfSome piece (λ rest. rest.left < left)) }
+{
     let mut bytes = [0u8; PIECE];
-    let most = least(left, PIECE);
+    let most = left.min(PIECE);
     let n = read_full(input, &mut bytes[..most])?;
-    if left < n {
-        return Ok(Rest { reading, left });
+    if n == 0 {
+        return Ok(None);
     }
-    Ok(Rest {
+    Ok(Some(Rest {
         reading: taken(out, form, reading, &bytes[..n]),
         left: left - n,
-    })
+    }))
 }
 
 // A piece of a file, as bytes or in decimal.
-fn taken(out: &mut [u8], form: u8, reading: Reading, bytes: &[u8]) -> Reading {
-    if form == b't' {
+fn taken(out: &mut [u8], form: Option<u8>, reading: Reading, bytes: &[u8]) -> Reading {
+    if form == Some(b't') {
         return wording::read_decimal(out, reading, bytes);
     }
     let said = reading.said;
@@ -269,14 +230,19 @@ fn taken(out: &mut [u8], form: u8, reading: Reading, bytes: &[u8]) -> Reading {
 }
 
 // Whether a text has a fault, which is then said.
-fn faulty(rt: &impl Print, said: Decoded, stray: usize, over: usize) -> io::Result<bool> {
+fn faulty(
+    rt: &impl Print,
+    said: Result<Scan, Fault>,
+    stray: usize,
+    over: usize,
+) -> io::Result<bool> {
     match said {
-        Decoded::Bytes(scan) => Ok(false),
-        Decoded::Stray(line, column) => {
+        Ok(_) => Ok(false),
+        Err(Fault::Stray(line, column)) => {
             trouble(rt, stray, line, column)?;
             Ok(true)
         }
-        Decoded::Over(line, column) => {
+        Err(Fault::Over(line, column)) => {
             trouble(rt, over, line, column)?;
             Ok(true)
         }
@@ -290,11 +256,11 @@ fn with_both(
     certificate: &[u8],
     r: Request,
 ) -> io::Result<()> {
-    if r.kind == b'E' {
-        return evaluate(rt, sheet, r.budget, r.print == b'd', r.keep);
+    if r.kind == Some(b'E') {
+        return evaluate(rt, sheet, r.budget, r.print == Some(b'd'), r.keep);
     }
-    if r.kind == b'C' {
-        return check(rt, sheet, certificate, r.print == b'd');
+    if r.kind == Some(b'C') {
+        return check(rt, sheet, certificate, r.print == Some(b'd'));
     }
     trouble(rt, wording::NO_REQUEST, 0, 0)
 }
@@ -305,7 +271,7 @@ fn evaluate(
     sheet: &[u8],
     budget: usize,
     print: bool,
-    keep: u8,
+    keep: Option<u8>,
 ) -> io::Result<()> {
     let mut listing = [0u32; evaluator::LISTING];
     let mut forms = [0u32; evaluator::FORMS];
@@ -335,23 +301,23 @@ fn told_evaluation(
     rt: &(impl Files + Print),
     sheet: &[u8],
     out: &[u8],
-    evaluated: Evaluated,
+    evaluated: Result<Accepted, Refusal>,
     print: bool,
-    keep: u8,
+    keep: Option<u8>,
 ) -> io::Result<()> {
     let mut page = [0u8; PAGE];
     match evaluated {
-        Evaluated::Accepted(long, work, inferences) => {
-            let n = wording::accepted(&mut page, 0, long, work, inferences);
-            if long <= out.len() {
-                told_accepted(rt, &page, n, &out[..long], print, keep)?;
+        Ok(a) => {
+            let n = wording::accepted(&mut page, 0, a.length, a.work, a.inferences);
+            if let Some(certificate) = out.get(..a.length) {
+                told_accepted(rt, &page, n, certificate, print, keep)?;
             }
             Ok(())
         }
-        Evaluated::Refused(why, place) => {
-            let n = wording::fails(&mut page, 0, sheet, why, place);
+        Err(r) => {
+            let n = wording::fails(&mut page, 0, sheet, r.0.number(), r.1);
             say(&mut io::writer(rt), &page, n)?;
-            in_phrase(rt, sheet, why, place)
+            in_phrase(rt, sheet, r)
         }
     }
 }
@@ -363,7 +329,7 @@ fn told_accepted(
     n: usize,
     certificate: &[u8],
     print: bool,
-    keep: u8,
+    keep: Option<u8>,
 ) -> io::Result<()> {
     if is_kept(rt, certificate, keep) {
         say(&mut io::writer(rt), page, n)?;
@@ -376,11 +342,11 @@ fn told_accepted(
 }
 
 // Whether a certificate is kept, as asked.
-fn is_kept(rt: &impl Files, certificate: &[u8], keep: u8) -> bool {
-    if keep == b'b' {
+fn is_kept(rt: &impl Files, certificate: &[u8], keep: Option<u8>) -> bool {
+    if keep == Some(b'b') {
         return keep_bytes(rt, certificate).is_ok();
     }
-    if keep == b't' {
+    if keep == Some(b't') {
         return keep_decimal(rt, certificate).unwrap_or(false);
     }
     true
@@ -399,11 +365,11 @@ fn keep_decimal(rt: &impl Files, certificate: &[u8]) -> io::Result<bool> {
 }
 
 // The phrase that a refusal is about, where it is about one.
-fn in_phrase(rt: &impl Print, sheet: &[u8], why: usize, place: usize) -> io::Result<()> {
-    if refusal::BUDGET_SPENT <= why {
-        if why <= refusal::NO_CLAUSE {
-            return phrase(rt, sheet, place);
-        }
+fn in_phrase(rt: &impl Print, sheet: &[u8], r: Refusal) -> io::Result<()> {
+    let Refusal(why, place) = r;
+    let number = why.number();
+    if Why::BudgetSpent.number() <= number && number <= Why::NoClause.number() {
+        return phrase(rt, sheet, place);
     }
     Ok(())
 }
@@ -423,8 +389,8 @@ fn phrase(rt: &impl Print, sheet: &[u8], k: usize) -> io::Result<()> {
         &mut base,
         sheet,
     ) {
-        SheetRead::Read(c) => row(rt, &names, &phrases, c.props, k),
-        SheetRead::Refused(why, place) => Ok(()),
+        Ok(c) => row(rt, &names, &phrases, c.props, k),
+        Err(_) => Ok(()),
     }
 }
 
@@ -467,20 +433,20 @@ fn told(
     rt: &impl Print,
     sheet: &[u8],
     certificate: &[u8],
-    checked: Checked,
+    checked: Result<Stands, Refusal>,
     print: bool,
 ) -> io::Result<()> {
     let mut page = [0u8; PAGE];
     match checked {
-        Checked::Stands(conclusion, inferences) => {
-            let n = wording::stands(&mut page, 0, certificate.len(), conclusion, inferences);
+        Ok(c) => {
+            let n = wording::stands(&mut page, 0, certificate.len(), c.conclusion, c.inferences);
             say(&mut io::writer(rt), &page, n)?;
             if print {
                 in_decimal(&mut io::writer(rt), certificate)?;
             }
         }
-        Checked::Falls(why, place) => {
-            let n = wording::falls(&mut page, 0, sheet, certificate, why, place);
+        Err(r) => {
+            let n = wording::falls(&mut page, 0, sheet, certificate, r.0.number(), r.1);
             say(&mut io::writer(rt), &page, n)?;
         }
     }
@@ -522,11 +488,4 @@ fn buffer() -> [u8; 321592]
     ensures { 321592 ≡ length result }
 {
     [0; 321592]
-}
-
-// The smaller of two numbers.
-fn least(n: usize, m: usize) -> usize
-    ensures { (result ≤ n) × (result ≤ m) }
-{
-    if n < m { n } else { m }
 }

@@ -7,17 +7,16 @@ use lib.ListN.{length, get_or, drop, drop_of_length-le}
 use lib.Seq.{drop-cons}
 use Rattle.wording.specs.Page.{Page, page, write}
 use Rattle.wording.specs.declared.Reading.{Reading}
-use Rattle.wording.specs.declared.Decoded.{Decoded}
-use Rattle.wording.specs.Decimals.{next, ends, heard, spoken, Reads}
+use Rattle.wording.specs.Decimals.{SoFar, next, ends, heard, spoken, Reads}
 use Rattle.wording.proofs.Writing.{write_append}
 
 -- two pieces one after another are read as one
-pub heard_append : (xs ys : List ℕ) (d : Decoded) → heard (xs ++ ys) d ≡ heard ys (heard xs d)
+pub heard_append : (xs ys : List ℕ) (d : SoFar) → heard (xs ++ ys) d ≡ heard ys (heard xs d)
 unfolding heard
 heard_append [] ys d = refl
 heard_append (x ∷ xs) ys d = heard_append xs ys (next x d)
 
-pub spoken_append : (xs ys : List ℕ) (d : Decoded) → spoken (xs ++ ys) d ≡ spoken xs d ++ spoken ys (heard xs d)
+pub spoken_append : (xs ys : List ℕ) (d : SoFar) → spoken (xs ++ ys) d ≡ spoken xs d ++ spoken ys (heard xs d)
 unfolding heard spoken
 spoken_append [] ys d = refl
 spoken_append (x ∷ xs) ys d =
@@ -29,7 +28,7 @@ reads_append xs ys x y z t₀ t₁ t₂ a b =
       answer = b.answer ∙ ap (heard ys) a.answer ∙ sym (heard_append xs ys x.said);
       bytes =
           b.bytes
-          ∙ ap (λ (d : Decoded). write (spoken ys d) (page t₁ y.bytes)) a.answer
+          ∙ ap (λ (d : SoFar). write (spoken ys d) (page t₁ y.bytes)) a.answer
           ∙ ap (write (spoken ys (heard xs x.said))) a.bytes
           ∙ sym (write_append (spoken xs x.said) (spoken ys (heard xs x.said)) (page t₀ x.bytes))
           ∙ ap (λ (l : List ℕ). write l (page t₀ x.bytes)) (sym (spoken_append xs ys x.said));
@@ -41,18 +40,17 @@ reads_once piece x r r' t₀ t t' a b =
     let p = a.bytes ∙ sym b.bytes in
     (reading_by r.said r'.said r.bytes r'.bytes (a.answer ∙ sym b.answer) (ap (λ (q : Page). q.used) p), ap (λ (q : Page). q.text) p)
   where
-    reading_by : (d d' : Decoded) (n n' : ℕ) → d ≡ d' → n ≡ n' → ◌≡◌ {A = Reading} (record { said = d; bytes = n }) (record { said = d'; bytes = n' })
+    reading_by : (d d' : SoFar) (n n' : ℕ) → d ≡ d' → n ≡ n' → ◌≡◌ {A = Reading} (record { said = d; bytes = n }) (record { said = d'; bytes = n' })
     reading_by d d' n n' e f = rw (e, f)
 
 -- i characters are read
 pub record At (text : List ℕ) (x r : Reading) (t₀ t : List ℕ) (i : ℕ) : Type 0 where
   pub same : heard text x.said ≡ heard (drop i text) r.said
   pub written : write (spoken text x.said) (page t₀ x.bytes) ≡ write (spoken (drop i text) r.said) (page t r.bytes)
-  pub kept : length t ≡ length t₀
 
 module _ (text : List ℕ) (x : Reading) (t₀ : List ℕ) where
   pub at_start : At text x x t₀ t₀ 0
-  at_start = record { same = refl; written = refl; kept = refl }
+  at_start = record { same = refl; written = refl }
 
   module _ (r : Reading) (t : List ℕ) (i : ℕ) (h : At text x r t₀ t i) where
     pub at_end : length text ≤ i → Reads text x r t₀ t
@@ -62,7 +60,7 @@ module _ (text : List ℕ) (x : Reading) (t₀ : List ℕ) where
         record { answer = sym (h.same ∙ rw e); bytes = sym (h.written ∙ rw e) }
 
     module _ (c : ℕ) (r' : Reading) (t' : List ℕ) (e : c ≡ get_or text i 0) (l : i < length text) (f : r'.said ≡ next c r.said)
-        (g : page t' r'.bytes ≡ write (ends c r.said) (page t r.bytes)) (k : length t' ≡ length t) where
+        (g : page t' r'.bytes ≡ write (ends c r.said) (page t r.bytes)) where
       abbrev rest : List ℕ
       rest = drop (i + 1) text
 
@@ -79,5 +77,4 @@ module _ (text : List ℕ) (x : Reading) (t₀ : List ℕ) where
           record {
             same = h.same ∙ rw (here, f);
             written = h.written ∙ ap (λ (l : List ℕ). write (spoken l r.said) (page t r.bytes)) here ∙ onward;
-            kept = k ∙ h.kept;
           }

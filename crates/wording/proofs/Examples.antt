@@ -1,13 +1,12 @@
 -- The texts at some values, in full: what the definitions and the templates make of them.
-use mathlib.Core.Path.{◌≡◌, refl}
+use Rattle.std.proofs.Common.{◌≡◌, refl, Err}
 use mathlib.Core.List.{[], ◌∷◌}
-use Rattle.wording.specs.Page.{pick}
 use Rattle.wording.specs.Text.{text, digits, decimal, listed, past, up_to, after, piece}
 use Rattle.wording.specs.Tables.{refusals, constructors, rules, kinds, troubles}
-use Rattle.wording.specs.Templates.{paired, named, told, part, filled}
-use Rattle.wording.specs.Answers.{accepted_text, stands_text, refused_text, dots_text, here_text, around_text, sheet_text, first_at, operand, facts_of, phrase_text, trouble_text}
-use Rattle.wording.specs.Decimals.{white, up, spaced, grown, digit, other, turn, next, ended, ends, heard, spoken, unread, said, bytes_of}
-use Rattle.wording.specs.declared.Decoded.TheVariants.{Stray, Over}
+use Rattle.wording.specs.Templates.{filled}
+use Rattle.wording.specs.Answers.{accepted_text, stands_text, refused_text, dots_text, here_text, around_text, sheet_text, first_at, phrase_text, trouble_text}
+use Rattle.wording.specs.Decimals.{heard, spoken, said, bytes_of}
+use Rattle.wording.specs.declared.Fault.TheVariants.{Stray, Over}
 
 pub record Examples : Type 0 where
   pub accepted : accepted_text 24 (record { 0 = 11 }) (record { 0 = 3 }) ≡ text "ACCEPTED with a certificate of 24 bytes, work 11, inferences 3\n"
@@ -24,14 +23,14 @@ pub record Examples : Type 0 where
   pub call : phrase_text (16 ∷ 2 ∷ 2 ∷ 4 ∷ 5 ∷ []) [] 8 ≡ text "at phrase 8: method call of phrase 2, argument phrases: 4 5\n"
   pub match : phrase_text (22 ∷ 3 ∷ 2 ∷ 0 ∷ 4 ∷ 1 ∷ 5 ∷ []) [] 6 ≡ text "at phrase 6: dmatch of phrase 3, clauses by pattern and phrase: 0 4 1 5\n"
   pub read : bytes_of (text " 3 0\n255") ≡ 3 ∷ 0 ∷ 255 ∷ []
-  pub over : said (text "1\n 007 256") ≡ Over 2 6
-  pub stray : said (text "1, 2 x") ≡ Stray 1 2
+  pub over : said (text "1\n 007 256") ≡ Err (Over 2 6)
+  pub stray : said (text "1, 2 x") ≡ Err (Stray 1 2)
   pub told_over : trouble_text 1 2 6 ≡ text "UNREADABLE: the sheet's text says no bytes: at line 2, column 6 begins a number over 255\n"
   pub told_stray : trouble_text 2 1 2 ≡ text "UNREADABLE: the certificate's text says no bytes: at line 1, column 2 stands a character that is neither a digit nor white space\n"
   pub told_unkept : trouble_text 5 0 0 ≡ text "UNWRITTEN: the certificate can't be kept\n"
 
 pub examples : Examples
-unfolding pick text digits decimal listed past up_to after piece refusals constructors rules kinds troubles paired named told part filled accepted_text stands_text refused_text dots_text here_text around_text sheet_text first_at operand facts_of phrase_text trouble_text white up spaced grown digit other turn next ended ends heard spoken unread said bytes_of
+unfolding text digits decimal listed past up_to after piece refusals constructors rules kinds troubles filled accepted_text stands_text refused_text dots_text here_text around_text sheet_text first_at phrase_text trouble_text heard spoken said bytes_of
 examples =
     record {
       accepted = refl;

@@ -8,7 +8,6 @@ use lib.ListN.{length, take, drop}
 use lib.Seq.{take_all, take-take, take-nil, get_or-take, length-take-le}
 use lib.Dec.{ltb}
 use borrow.Author.Tests.{lt-ltb, ltb-true, ltb-false}
-use Rattle.wording.specs.Page.{pick}
 use Rattle.wording.specs.Answers.{here_text, around_text, sheet_text, certificate_text, fails_text, falls_text}
 
 -- a part that lies in the front
@@ -20,7 +19,7 @@ within (x ∷ s) (suc n) (suc j) k h = within s n j k (omega arith)
 
 module _ (s : List ℕ) (n place : ℕ) (h : place + 10 ≤ n) where
   longer : n < length s → around_text (take n s) place ≡ around_text s place
-  unfolding around_text here_text pick
+  unfolding around_text here_text
   longer l =
       let e : length (take n s) ≡ n = length-take-le n s (omega arith) in
       rw (

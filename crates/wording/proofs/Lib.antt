@@ -1,11 +1,7 @@
 pub mod Writing
-pub mod Listing
-pub mod Pieces
-pub mod Filling
-pub mod Finding
 pub mod Bytes
 pub mod Answering
-pub mod Copying
 pub mod Fronting
 pub mod Decoding
 pub mod Examples
+pub mod Walking

@@ -7,7 +7,7 @@ use mathlib.Core.List.{List, [], ◌∷◌, ◌++◌}
 use lib.ListN.{length, set, length-set}
 use lib.Seq.{sets}
 use borrow.Author.Tests.{lt-ltb, le-ltb}
-use Rattle.wording.specs.Page.{Page, page, pick, stroke, write}
+use Rattle.wording.specs.Page.{Page, page, stroke, write}
 use Rattle.wording.specs.Text.{digits}
 
 pub write_append : (xs ys : List ℕ) (p : Page) → write (xs ++ ys) p ≡ write ys (write xs p)
@@ -26,11 +26,11 @@ one c p r e = e
 
 -- a page with room takes a character, a full one does not
 pub put_room : (t : List ℕ) (at c : ℕ) → at < length t → page (set t at c) (at + 1) ≡ stroke c (page t at)
-unfolding stroke pick
+unfolding stroke
 put_room t at c h = rw (lt-ltb at (length t) h)
 
 pub put_full : (t : List ℕ) (at c : ℕ) → length t ≤ at → page t at ≡ stroke c (page t at)
-unfolding stroke pick
+unfolding stroke
 put_full t at c h = rw (le-ltb at (length t) h)
 
 pub digits_none : (k n : ℕ) (p : Page) → k ≡ 0 → p ≡ write (digits k n) p
@@ -38,12 +38,12 @@ unfolding write digits
 digits_none k n p e = rw e
 
 pub digits_one : (k n c : ℕ) (p r : Page) → (k ≡ 0 → ⊥) → n < 10 → c ≡ n + 48 → r ≡ stroke c p → r ≡ write (digits k n) p
-unfolding write digits pick
+unfolding write digits
 digits_one zero n c p r z h e f = absurd (z refl)
 digits_one (suc k) n c p r z h e f = rw (lt-ltb n 10 h, ← e) f
 
 pub digits_more : (k n c : ℕ) (p q r : Page) → (k ≡ 0 → ⊥) → 10 ≤ n → q ≡ write (digits (k - 1) (n / 10)) p → c ≡ n % 10 + 48 → r ≡ stroke c q → r ≡ write (digits k n) p
-unfolding digits pick
+unfolding digits
 digits_more zero n c p q r z h w e f = absurd (z refl)
 digits_more (suc k) n c p q r z h w e f =
     let z' : suc k - 1 ≡ k = omega arith in

@@ -36,7 +36,7 @@ here_text s place =
 
 -- the bytes around a place, at most eight on either side; past the last byte stands the end
 unfoldable pub around_text : List ℕ → ℕ → List ℕ
-unfolding pick text dots_text here_text
+unfolding text dots_text here_text
 around_text s place =
     dots_text (ltb 8 place)
     ++ (listed (take (place - (place - 8)) (drop (place - 8) s)) ++ pick (ltb place (length s)) (here_text s place) (text " [end]"))
@@ -52,17 +52,15 @@ certificate_text s place = filled (0 ∷ place ∷ []) (text "at byte 1 of the c
 
 -- the first place of a number in a list; the list's length where it has none
 unfoldable pub first_at : List ℕ → ℕ → ℕ
-unfolding pick
 first_at [] w = 0
 first_at (x ∷ xs) w = pick (eqb x w) 0 (suc (first_at xs w))
 
 -- a row's first operand: a proposition by its number in the sheet, the first of those equal to it; any other as it is
-unfoldable pub operand : List ℕ → List ℕ → ℕ
-unfolding pick first_at
+abbrev pub operand : List ℕ → List ℕ → ℕ
 operand row names = pick (eqb (get_or row 0 0) 0) (first_at names (get_or row 1 0)) (get_or row 1 0)
 
 -- a phrase's row as facts
-unfoldable pub facts_of : List ℕ → List ℕ → List ℕ
+abbrev pub facts_of : List ℕ → List ℕ → List ℕ
 facts_of row names =
     get_or row 0 0 ∷ operand row names ∷ get_or row 2 0 ∷ get_or row 3 0 ∷ get_or row 4 0 ∷ get_or row 5 0 ∷ get_or row 6 0 ∷ get_or row 7 0 ∷ get_or row 8 0
     ∷ get_or row 9 0 ∷ get_or row 10 0 ∷ get_or row 11 0 ∷ []
@@ -75,14 +73,14 @@ phrase_text row names k =
 
 -- a refused check: the refusal, and its place in the bytes that it is about
 unfoldable pub falls_text : List ℕ → List ℕ → ℕ → ℕ → List ℕ
-unfolding pick refused_text sheet_text certificate_text
+unfolding refused_text sheet_text certificate_text
 falls_text sheet certificate number place =
     refused_text number
     ++ pick (leb 3 number) (pick (leb number 7) (sheet_text sheet place) (certificate_text certificate place)) []
 
 -- a refused evaluation whose place is no phrase
 unfoldable pub fails_text : List ℕ → ℕ → ℕ → List ℕ
-unfolding pick refused_text sheet_text
+unfolding refused_text sheet_text
 fails_text sheet number place = refused_text number ++ pick (leb 3 number) (pick (leb number 7) (sheet_text sheet place) []) []
 
 -- a certificate's bytes in decimal, on a line

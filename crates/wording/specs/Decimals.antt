@@ -1,78 +1,70 @@
 -- Bytes written in decimal, with white space between them and around them, as document 01 writes them. A text may come in pieces, one after another.
-use Rattle.std.specs.Prelude.{ℕ, ◌+◌, ◌-◌, ◌*◌, ◌≡◌, List, [], ◌∷◌, ◌++◌, Bool, ◌||◌, ltb, leb, eqb}
+use Rattle.std.specs.Prelude.{ℕ, ◌+◌, ◌-◌, ◌*◌, ◌≡◌, List, [], ◌∷◌, ◌++◌, Bool, ◌||◌, ltb, leb, eqb, Result, Ok, Err}
 use Rattle.wording.specs.Page.{page, pick, write}
 use Rattle.wording.specs.declared.Scan.{Scan}
 use Rattle.wording.specs.declared.Reading.{Reading}
-use Rattle.wording.specs.declared.Decoded.{Decoded}
-use Rattle.wording.specs.declared.Decoded.TheVariants.{Bytes, Stray, Over}
+use Rattle.wording.specs.declared.Fault.{Fault}
+use Rattle.wording.specs.declared.Fault.TheVariants.{Stray, Over}
+
+-- what a text says so far
+abbrev pub SoFar : Type 0
+SoFar = Result Scan Fault
 
 -- a blank, a tab, a line's end
-unfoldable pub white : ℕ → Bool
+abbrev pub white : ℕ → Bool
 white c = eqb c 32 || (eqb c 9 || (eqb c 10 || eqb c 13))
 
 -- one more, as far as 64 bits go
-unfoldable pub up : ℕ → ℕ
-unfolding pick
+abbrev pub up : ℕ → ℕ
 up n = pick (ltb n 18446744073709551615) (n + 1) n
 
 -- past white space no number is begun; past a line's end stands the next line
-unfoldable pub spaced : Scan → ℕ → Scan
-unfolding pick up
+abbrev pub spaced : Scan → ℕ → Scan
 spaced s c = record { value = 0; digits = 0; line = pick (eqb c 10) (up s.line) s.line; column = pick (eqb c 10) 1 (up s.column) }
 
 -- the number begun, with a digit's character more
-unfoldable pub grown : ℕ → ℕ → ℕ
+abbrev pub grown : ℕ → ℕ → ℕ
 grown v c = 10 * v + (c - 48)
 
 -- a digit makes the number longer; a number over 255 is wrong where it begins
-unfoldable pub digit : Scan → ℕ → Decoded
-unfolding pick up grown
+abbrev pub digit : Scan → ℕ → SoFar
 digit s c =
-    pick (leb (grown s.value c) 255) (Bytes (record { value = grown s.value c; digits = up s.digits; line = s.line; column = up s.column }))
-    (Over s.line (s.column - s.digits))
+    pick (leb (grown s.value c) 255) (Ok (record { value = grown s.value c; digits = up s.digits; line = s.line; column = up s.column }))
+    (Err (Over s.line (s.column - s.digits)))
 
 -- any other character is wrong
-unfoldable pub other : Scan → ℕ → Decoded
-unfolding pick digit
-other s c = pick (leb 48 c) (pick (leb c 57) (digit s c) (Stray s.line s.column)) (Stray s.line s.column)
+abbrev pub other : Scan → ℕ → SoFar
+other s c = pick (leb 48 c) (pick (leb c 57) (digit s c) (Err (Stray s.line s.column))) (Err (Stray s.line s.column))
 
-unfoldable pub turn : Scan → ℕ → Decoded
-unfolding pick white spaced other
-turn s c = pick (white c) (Bytes (spaced s c)) (other s c)
+abbrev pub turn : Scan → ℕ → SoFar
+turn s c = pick (white c) (Ok (spaced s c)) (other s c)
 
 -- what is said with a character more; after a fault nothing changes it
-unfoldable pub next : ℕ → Decoded → Decoded
-unfolding turn
-next c (Bytes s) = turn s c
-next c (Stray line column) = Stray line column
-next c (Over line column) = Over line column
+abbrev pub next : ℕ → SoFar → SoFar
+next c (Ok s) = turn s c
+next c (Err fault) = Err fault
 
 -- the byte that is complete, where a number is begun
-unfoldable pub ended : Scan → List ℕ
-unfolding pick
+abbrev pub ended : Scan → List ℕ
 ended s = pick (eqb s.digits 0) [] (s.value ∷ [])
 
 -- white space ends a number
-unfoldable pub ends : ℕ → Decoded → List ℕ
-unfolding pick white ended
-ends c (Bytes s) = pick (white c) (ended s) []
-ends c (Stray line column) = []
-ends c (Over line column) = []
+abbrev pub ends : ℕ → SoFar → List ℕ
+ends c (Ok s) = pick (white c) (ended s) []
+ends c (Err fault) = []
 
 -- what is said after a piece of a text, and the bytes that it ends
-unfoldable pub heard : List ℕ → Decoded → Decoded
-unfolding next
+unfoldable pub heard : List ℕ → SoFar → SoFar
 heard [] d = d
 heard (c ∷ cs) d = heard cs (next c d)
 
-unfoldable pub spoken : List ℕ → Decoded → List ℕ
-unfolding next ends
+unfoldable pub spoken : List ℕ → SoFar → List ℕ
 spoken [] d = []
 spoken (c ∷ cs) d = ends c d ++ spoken cs (next c d)
 
 -- before a text's first character
-unfoldable pub unread : Reading
-unread = record { said = Bytes (record { value = 0; digits = 0; line = 1; column = 1 }); bytes = 0 }
+abbrev pub unread : Reading
+unread = record { said = Ok (record { value = 0; digits = 0; line = 1; column = 1 }); bytes = 0 }
 
 -- what reading a piece answers, and the page of bytes after it
 pub record Reads (piece : List ℕ) (x r : Reading) (t₀ t : List ℕ) : Type 0 where
@@ -80,10 +72,10 @@ pub record Reads (piece : List ℕ) (x r : Reading) (t₀ t : List ℕ) : Type 0
   pub bytes : page t r.bytes ≡ write (spoken piece x.said) (page t₀ x.bytes)
 
 -- a whole text, white space after it: what it says, and its bytes
-unfoldable pub said : List ℕ → Decoded
-unfolding heard unread
+unfoldable pub said : List ℕ → SoFar
+unfolding heard
 said text = heard (text ++ (32 ∷ [])) unread.said
 
 unfoldable pub bytes_of : List ℕ → List ℕ
-unfolding spoken unread
+unfolding spoken
 bytes_of text = spoken (text ++ (32 ∷ [])) unread.said

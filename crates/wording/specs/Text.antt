@@ -11,7 +11,6 @@ text (c then s) = code c ∷ text s
 
 -- the last k digits of a number, with no zeros before its first digit
 unfoldable pub digits : ℕ → ℕ → List ℕ
-unfolding pick
 digits zero n = []
 digits (suc k) n = pick (ltb n 10) ((n + 48) ∷ []) (digits k (n / 10) ++ ((n % 10 + 48) ∷ []))
 
@@ -28,13 +27,11 @@ listed (n ∷ ns) = 32 ∷ (decimal n ++ listed ns)
 
 -- what stands past the first bar
 unfoldable pub past : List ℕ → List ℕ
-unfolding pick
 past [] = []
 past (c ∷ cs) = pick (eqb c 124) cs (past cs)
 
 -- what stands before the first bar
 unfoldable pub up_to : List ℕ → List ℕ
-unfolding pick
 up_to [] = []
 up_to (c ∷ cs) = pick (eqb c 124) [] (c ∷ up_to cs)
 

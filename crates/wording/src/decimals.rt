@@ -1,20 +1,16 @@
 // Bytes written in decimal, with white space between them and around them, as document 01 writes them.
-ghost use Rattle.std.specs.Prelude.{◌≡◌, ◌-◌, ◌≤◌};
+ghost use Rattle.std.specs.Prelude.{◌≡◌, ◌≤◌, Ok};
 ghost use Rattle.wording.specs.Page.{page as page_page, write};
-ghost use Rattle.wording.specs.Decimals.{white, up as decimals_up, spaced as decimals_spaced, grown as decimals_grown, digit as decimals_digit, other as decimals_other, turn as decimals_turn, next, ended as decimals_ended, ends, unread as decimals_unread, Reads};
-ghost use Rattle.wording.specs.declared.Decoded.TheVariants.{Bytes};
+ghost use Rattle.wording.specs.Decimals.{white, spaced as decimals_spaced, digit as decimals_digit, other as decimals_other, turn as decimals_turn, next, ended as decimals_ended, ends, unread as decimals_unread, Reads};
 
-use crate::{Decoded, Reading, Scan, page};
-
-// The largest number of 64 bits.
-const LARGEST: usize = 18446744073709551615;
+use crate::{Fault, Reading, Scan, page};
 
 // Before a text's first character.
 pub fn unread() -> Reading
     ensures { result ≡ decimals_unread }
 {
     Reading {
-        said: Decoded::Bytes(Scan {
+        said: Ok(Scan {
             value: 0,
             digits: 0,
             line: 1,
@@ -29,36 +25,34 @@ pub fn read(out: &mut [u8], before: Reading, piece: &[u8]) -> Reading
     ensures { Reads piece.now before result out.old out.new }
 {
     let mut reading = before;
-    let mut i = 0;
-    while i < piece.len() {
-        reading = turn(out, reading, piece[i]);
-        i += 1;
+    for c in piece {
+        reading = turn(out, reading, *c);
     }
     reading
 }
 
 // What a character does; after a fault nothing more is read.
+#[tactic(auto, unfolding(crate::specs::Page::write))]
 fn turn(out: &mut [u8], before: Reading, c: u8) -> Reading
     ensures said_value { result.said ≡ next c before.said }
     ensures bytes_after { page_page out.new result.bytes ≡ write (ends c before.said) (page_page out.old before.bytes) }
 {
-    let said = before.said;
-    match said {
-        Decoded::Bytes(scan) => character(out, before.bytes, scan, c),
-        Decoded::Stray(line, column) => before,
-        Decoded::Over(line, column) => before,
+    match before.said {
+        Ok(scan) => character(out, before.bytes, scan, c),
+        Err(_) => before,
     }
 }
 
 // A character where no fault was met: white space ends a number.
+#[tactic(auto, unfolding(crate::specs::Page::write))]
 fn character(out: &mut [u8], at: usize, scan: Scan, c: u8) -> Reading
     ensures said_value { result.said ≡ decimals_turn scan c }
-    ensures bytes_after { page_page out.new result.bytes ≡ write (ends c (Bytes scan)) (page_page out.old at) }
+    ensures bytes_after { page_page out.new result.bytes ≡ write (ends c (Ok scan)) (page_page out.old at) }
 {
     if is_white(c) {
         let n = ended(out, at, scan);
         return Reading {
-            said: Decoded::Bytes(spaced(scan, c)),
+            said: Ok(spaced(scan, c)),
             bytes: n,
         };
     }
@@ -69,6 +63,7 @@ fn character(out: &mut [u8], at: usize, scan: Scan, c: u8) -> Reading
 }
 
 // The byte that is complete, where a number is begun.
+#[tactic(auto, unfolding(crate::specs::Page::write))]
 fn ended(out: &mut [u8], at: usize, scan: Scan) -> usize
     ensures { page_page out.new result ≡ write (decimals_ended scan) (page_page out.old at) }
 {
@@ -86,7 +81,7 @@ fn spaced(scan: Scan, c: u8) -> Scan
         return Scan {
             value: 0,
             digits: 0,
-            line: up(scan.line),
+            line: scan.line.saturating_add(1),
             column: 1,
         };
     }
@@ -94,74 +89,40 @@ fn spaced(scan: Scan, c: u8) -> Scan
         value: 0,
         digits: 0,
         line: scan.line,
-        column: up(scan.column),
+        column: scan.column.saturating_add(1),
     }
 }
 
 // A digit makes the number longer; any other character is wrong.
-fn other(scan: Scan, c: u8) -> Decoded
+fn other(scan: Scan, c: u8) -> Result<Scan, Fault>
     ensures { result ≡ decimals_other scan c }
 {
-    if b'0' <= c {
-        if c <= b'9' {
-            return digit(scan, c);
-        }
-        return Decoded::Stray(scan.line, scan.column);
+    match c {
+        b'0'..=b'9' => digit(scan, c),
+        _ => Err(Fault::Stray(scan.line, scan.column)),
     }
-    Decoded::Stray(scan.line, scan.column)
 }
 
 // A digit; a number over 255 is wrong where it begins.
-fn digit(scan: Scan, c: u8) -> Decoded
+fn digit(scan: Scan, c: u8) -> Result<Scan, Fault>
     requires { (48 ≤ c) × (c ≤ 57) }
     ensures { result ≡ decimals_digit scan c }
 {
-    let w = grown(scan.value, c);
+    let w = 10 * usize::from(scan.value) + usize::from(c - b'0');
     if w <= 255 {
-        return Decoded::Bytes(Scan {
+        return Ok(Scan {
             value: w as u8,
-            digits: up(scan.digits),
+            digits: scan.digits.saturating_add(1),
             line: scan.line,
-            column: up(scan.column),
+            column: scan.column.saturating_add(1),
         });
     }
-    Decoded::Over(scan.line, less(scan.column, scan.digits))
-}
-
-// The number begun, with a digit's character more.
-fn grown(v: u8, c: u8) -> usize
-    requires { (48 ≤ c) × (c ≤ 57) }
-    ensures { result ≡ decimals_grown v c }
-{
-    10 * page::wide(v) + page::wide(c - b'0')
-}
-
-// One more, as far as 64 bits go.
-fn up(n: usize) -> usize
-    ensures { result ≡ decimals_up n }
-{
-    if n < LARGEST { n + 1 } else { n }
-}
-
-// So much less, or 0.
-fn less(n: usize, m: usize) -> usize
-    ensures { result ≡ n - m }
-{
-    if m < n { n - m } else { 0 }
+    Err(Fault::Over(scan.line, scan.column.saturating_sub(scan.digits)))
 }
 
 // A blank, a tab, a line's end.
 fn is_white(c: u8) -> bool
     ensures { result ≡ white c }
 {
-    if c == b' ' {
-        return true;
-    }
-    if c == b'\t' {
-        return true;
-    }
-    if c == b'\n' {
-        return true;
-    }
-    c == b'\r'
+    matches!(c, b' ' | b'\t' | b'\n' | b'\r')
 }

@@ -8,7 +8,7 @@ ghost use Rattle.wording.specs.Page.{page as page_page, write};
 ghost use Rattle.wording.specs.Answers.{accepted_text, stands_text, refused_text, dots_text, here_text, around_text, sheet_text, certificate_text, first_at, operand as answers_operand, facts_of, phrase_text, falls_text, fails_text, bytes_text, trouble_text};
 ghost use Rattle.wording.specs.Decimals.{unread as decimals_unread, Reads};
 
-use language::{Inferences, Work, refusal};
+use language::{Inferences, Why, Work};
 use records::{phrase_kind, rows};
 
 pub mod decimals;
@@ -34,6 +34,11 @@ pub const NO_REQUEST: usize = 4;
 // The certificate can't be kept.
 pub const UNKEPT: usize = 5;
 
+// The refusals whose place is a byte are the numbers from one to the other, and those of a certificate's bytes, which are more.
+const BYTES_END: usize = Why::BytesEnd as usize;
+
+const BYTES_AFTER: usize = Why::BytesAfter as usize;
+
 // Where a text is read: the number begun and how many digits it has, and the next character's line and column, counted from 1.
 #[derive(Clone, Copy)]
 pub struct Scan {
@@ -43,19 +48,18 @@ pub struct Scan {
     pub column: usize,
 }
 
-// What a text of bytes in decimal says so far: bytes; or the line and column of its first fault, a character that is neither a digit nor white space,
-// or the beginning of a number over 255.
+// What is wrong in a text of bytes in decimal, by its line and column: a character that is neither a digit nor white space; or the beginning of a
+// number over 255.
 #[derive(Clone, Copy)]
-pub enum Decoded {
-    Bytes(Scan),
+pub enum Fault {
     Stray(usize, usize),
     Over(usize, usize),
 }
 
-// A text read so far: what it says, and how many bytes are written.
+// A text read so far: what it says, bytes or its first fault, and how many bytes are written.
 #[derive(Drop)]
 pub struct Reading {
-    pub said: Decoded,
+    pub said: Result<Scan, Fault>,
     pub bytes: usize,
 }
 
@@ -130,8 +134,8 @@ pub fn falls(
     ensures { page_page out.new result ≡ write (falls_text sheet.now certificate.now number place) (page_page out.old at) }
 {
     let k = refused(out, at, number);
-    if refusal::BYTES_END <= number {
-        if number <= refusal::BYTES_AFTER {
+    if BYTES_END <= number {
+        if number <= BYTES_AFTER {
             return in_sheet(out, k, sheet, place);
         }
         return in_certificate(out, k, certificate, place);
@@ -144,8 +148,8 @@ pub fn fails(out: &mut [u8], at: usize, sheet: &[u8], number: usize, place: usiz
     ensures { page_page out.new result ≡ write (fails_text sheet.now number place) (page_page out.old at) }
 {
     let k = refused(out, at, number);
-    if refusal::BYTES_END <= number {
-        if number <= refusal::BYTES_AFTER {
+    if BYTES_END <= number {
+        if number <= BYTES_AFTER {
             return in_sheet(out, k, sheet, place);
         }
     }
@@ -169,7 +173,7 @@ pub fn in_decimal(out: &mut [u8], at: usize, certificate: &[u8]) -> usize
     if certificate.len() == 0 {
         return page::words(out, at, b"\n", 0);
     }
-    let first = page::number(out, at, page::wide(certificate[0]));
+    let first = page::number(out, at, usize::from(certificate[0]));
     let all = page::bytes(out, first, certificate, 1, certificate.len());
     page::words(out, all, b"\n", 0)
 }
@@ -210,7 +214,7 @@ fn in_certificate(out: &mut [u8], at: usize, s: &[u8], place: usize) -> usize
 fn around(out: &mut [u8], at: usize, s: &[u8], place: usize) -> usize
     ensures { page_page out.new result ≡ write (around_text s.now place) (page_page out.old at) }
 {
-    let from = start(place);
+    let from = place.saturating_sub(8);
     let begun = dots(out, at, 8 < place);
     let before = page::bytes(out, begun, s, from, place - from);
     if place < s.len() {
@@ -224,7 +228,7 @@ fn here(out: &mut [u8], at: usize, s: &[u8], place: usize) -> usize
     requires { place < length s.now }
     ensures { page_page out.new result ≡ write (here_text s.now place) (page_page out.old at) }
 {
-    let marked = template::fill(out, at, b" [1]", 0, &[0, page::wide(s[place])]);
+    let marked = template::fill(out, at, b" [1]", 0, &[0, usize::from(s[place])]);
     let after = page::bytes(out, marked, s, place + 1, 8);
     dots(out, after, 9 < s.len() - place)
 }
@@ -237,13 +241,6 @@ fn dots(out: &mut [u8], at: usize, more: bool) -> usize
         return page::words(out, at, b" ..", 0);
     }
     at
-}
-
-// Eight before a place, or the start.
-fn start(place: usize) -> usize
-    ensures { result ≡ place - 8 }
-{
-    if 8 < place { place - 8 } else { 0 }
 }
 
 // A phrase's row as facts.
@@ -277,15 +274,14 @@ fn operand(row: &[u32], names: &[u32]) -> usize
 }
 
 // The first place of a number in a list; the list's length where it has none.
+#[tactic(auto, using(crate::proofs::Walking::finding))]
 fn first_at(s: &[u32], w: usize) -> usize
     ensures { result ≡ first_at s.now w }
 {
-    let mut i = 0;
-    while i < s.len() {
-        if words::at(s, i) == w {
+    for (i, x) in s.iter().enumerate() {
+        if *x as usize == w {
             return i;
         }
-        i += 1;
     }
-    i
+    s.len()
 }

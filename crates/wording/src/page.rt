@@ -1,13 +1,11 @@
 // Writing on a page, a lent buffer of which a front is written: each function adds its text and answers how much is then written.
 // Writing past the page's end changes nothing.
-ghost use Rattle.std.specs.Prelude.{◌≡◌, ◌+◌, ◌-◌, ◌≤◌, ◌<◌, eqb, length, take, drop};
-ghost use Rattle.wording.specs.Page.{page, pick, stroke, write};
-ghost use Rattle.wording.specs.Text.{digits, decimal, listed, after, up_to, piece};
-
-// The digit 0's character.
-const ZERO: usize = b'0' as usize;
+ghost use Rattle.std.specs.Prelude.{◌≡◌, ℕ, ◌+◌, ◌≤◌, ◌<◌, length, map, take, drop};
+ghost use Rattle.wording.specs.Page.{page, stroke, write};
+ghost use Rattle.wording.specs.Text.{digits, decimal, listed as text_listed, after, up_to, piece as text_piece};
 
 // A character.
+#[tactic(auto, unfolding(crate::specs::Page::stroke))]
 pub fn put(out: &mut [u8], at: usize, c: u8) -> usize
     ensures { page out.new result ≡ stroke c (page out.old at) }
 {
@@ -19,19 +17,19 @@ pub fn put(out: &mut [u8], at: usize, c: u8) -> usize
 }
 
 // Bytes as they are.
+#[tactic(auto, using(crate::proofs::Walking::copying))]
 pub fn copy(out: &mut [u8], at: usize, s: &[u8]) -> usize
     ensures { page out.new result ≡ write s.now (page out.old at) }
 {
     let mut k = at;
-    let mut i = 0;
-    while i < s.len() {
-        k = put(out, k, s[i]);
-        i += 1;
+    for c in s {
+        k = put(out, k, *c);
     }
     k
 }
 
 // A number in decimal.
+#[tactic(auto, unfolding(crate::specs::Text::decimal))]
 pub fn number(out: &mut [u8], at: usize, n: usize) -> usize
     ensures { page out.new result ≡ write (decimal n) (page out.old at) }
 {
@@ -57,41 +55,63 @@ fn digit(d: usize) -> u8
     requires { d < 10 }
     ensures { result ≡ d + 48 }
 {
-    (d + ZERO) as u8
+    d as u8 + b'0'
 }
 
 // Numbers in decimal, each after a blank: n of a list, or fewer where it ends, from a place on.
 pub fn list(out: &mut [u8], at: usize, numbers: &[usize], from: usize, n: usize) -> usize
-    ensures { page out.new result ≡ write (listed (take n (drop from numbers.now))) (page out.old at) }
+    ensures { page out.new result ≡ write (text_listed (take n (drop from numbers.now))) (page out.old at) }
 {
-    let mut k = at;
-    let mut i = from;
-    let mut left = n;
-    while i < numbers.len() {
-        if left == 0 {
-            return k;
-        }
-        k = spaced(out, k, numbers[i]);
-        i += 1;
-        left -= 1;
-    }
-    k
+    listed(out, at, part(numbers, from, n))
 }
 
 // Bytes in decimal, each after a blank: n of them, or fewer where they end, from a place on.
 pub fn bytes(out: &mut [u8], at: usize, s: &[u8], from: usize, n: usize) -> usize
-    ensures { page out.new result ≡ write (listed (take n (drop from s.now))) (page out.old at) }
+    ensures { page out.new result ≡ write (text_listed (take n (drop from s.now))) (page out.old at) }
+{
+    listed(out, at, part(s, from, n))
+}
+
+// What is written in decimal: a byte or a number.
+trait Numeric: Copy {
+    ghost number: { Self → ℕ };
+
+    // Its number.
+    fn wide(self) -> usize
+        ensures { result ≡ number self };
+}
+
+impl Numeric for u8 {
+    ghost number = { λ c. c };
+
+    fn wide(self) -> usize {
+        usize::from(self)
+    }
+}
+
+impl Numeric for usize {
+    ghost number = { λ n. n };
+
+    fn wide(self) -> usize {
+        self
+    }
+}
+
+// So many items of a list, or fewer where it ends, from a place on.
+fn part<T>(items: &[T], from: usize, n: usize) -> &[T]
+    ensures { result.now ≡ take n (drop from items.now) }
+{
+    let rest = items.get(from..).unwrap_or_default();
+    &rest[..n.min(rest.len())]
+}
+
+// Numbers in decimal, each after a blank.
+fn listed<T: Numeric>(out: &mut [u8], at: usize, items: &[T]) -> usize
+    ensures { page out.new result ≡ write (text_listed (map T.number items.now)) (page out.old at) }
 {
     let mut k = at;
-    let mut i = from;
-    let mut left = n;
-    while i < s.len() {
-        if left == 0 {
-            return k;
-        }
-        k = spaced(out, k, wide(s[i]));
-        i += 1;
-        left -= 1;
+    for x in items {
+        k = spaced(out, k, x.wide());
     }
     k
 }
@@ -106,54 +126,52 @@ fn spaced(out: &mut [u8], at: usize, n: usize) -> usize
 
 // Piece k of a text cut at bars.
 pub fn words(out: &mut [u8], at: usize, texts: &[u8], k: usize) -> usize
-    ensures { page out.new result ≡ write (piece k texts.now) (page out.old at) }
+    ensures { page out.new result ≡ write (text_piece k texts.now) (page out.old at) }
 {
-    up_to(out, at, texts, skip(texts, k))
+    copy(out, at, piece(texts, k))
 }
 
-// A text from a place up to the first bar.
-fn up_to(out: &mut [u8], at: usize, text: &[u8], from: usize) -> usize
-    ensures { page out.new result ≡ write (up_to (drop from text.now)) (page out.old at) }
+// Piece k of a text cut at bars.
+pub(crate) fn piece(texts: &[u8], k: usize) -> &[u8]
+    ensures { result.now ≡ text_piece k texts.now }
 {
-    let mut k = at;
-    let mut i = from;
-    while i < text.len() {
-        if text[i] == b'|' {
-            return k;
+    let rest = &texts[skip(texts, k)..];
+    &rest[..bar(rest)]
+}
+
+// The place of the first bar; the text's end where there is none.
+#[tactic(auto, using(crate::proofs::Walking::cutting))]
+fn bar(text: &[u8]) -> usize
+    ensures { (take result text.now ≡ up_to text.now) × (result ≤ length text.now) }
+{
+    for (i, c) in text.iter().enumerate() {
+        if *c == b'|' {
+            return i;
         }
-        k = put(out, k, text[i]);
-        i += 1;
     }
-    k
+    text.len()
 }
 
 // The place past k bars; the text's end where there are fewer.
+#[tactic(auto, using(crate::proofs::Walking::skipping))]
 pub fn skip(text: &[u8], k: usize) -> usize
     ensures { (after k text.now ≡ drop result text.now) × (result ≤ length text.now) }
 {
-    let mut i = 0;
     let mut left = k;
-    while i < text.len() {
+    for (i, c) in text.iter().enumerate() {
         if left == 0 {
             return i;
         }
-        left = passed(left, text[i]);
-        i += 1;
+        if *c == b'|' {
+            left -= 1;
+        }
     }
-    i
-}
-
-// How many bars are left to pass after a character.
-fn passed(left: usize, c: u8) -> usize
-    requires { 0 < left }
-    ensures { result ≡ pick (eqb c 124) (left - 1) left }
-{
-    if c == b'|' { left - 1 } else { left }
+    text.len()
 }
 
 // A character's number.
 pub fn wide(c: u8) -> usize
     ensures { (result ≡ c) × (result < 256) }
 {
-    c as usize
+    usize::from(c)
 }

@@ -1,10 +1,12 @@
 -- Laws of a run of stores: what it leaves at its own places, before them and past them, and a run just past the front.
-use Prim.Native.Nat.{ℕ, zero, suc, ◌+◌, ◌≤◌, ◌<◌}
+use Prim.Native.Nat.{ℕ, zero, suc, ◌+◌, ◌≤◌, ◌<◌, ◌^◌}
 use mathlib.Core.Path.{◌≡◌, refl, sym, ap, ◌∙◌}
 use mathlib.Core.List.{List, [], ◌∷◌, ◌++◌, append-nil}
 use native.Mathlib.Omega.{arith}
 use lib.ListN.{length, get_or, set, take, drop, length-set, length-append}
-use lib.Seq.{sets, append_snoc, get_or-set_same, get_or-set_other, take-set-le, drop-set-lt, set_out}
+use native.Mathlib.Numerals.{add-one}
+use lib.Seq.{sets, drop-cons, append_snoc, get_or-set_same, get_or-set_other, take-set-le, drop-set-lt, set_out}
+use Rattle.words.specs.Cells.{Narrow}
 use Rattle.words.specs.Front.{front}
 use Rattle.words.proofs.Fronts.{front_snoc}
 
@@ -64,3 +66,19 @@ front_run (v ∷ vs) xs d h =
 -- a run at the very front is the front
 pub front_sets : (vs d : List ℕ) → length vs ≤ length d → sets d 0 vs ≡ front vs d
 front_sets vs d h = front_run vs [] d (omega arith)
+
+-- numbers that all fit a cell do so one by one
+pub narrow_at : (vs : List ℕ) (j : ℕ) → Narrow vs → get_or vs j 0 < 2 ^ 32
+narrow_at [] j n = omega arith
+narrow_at (v ∷ vs) zero n = n.0
+narrow_at (v ∷ vs) (suc j) n = narrow_at vs j n.1
+
+-- a run stored number by number: the first j are there, and the rest is to be stored
+abbrev pub Storing : List ℕ → ℕ → List ℕ → List ℕ → ℕ → Type 0
+Storing t₀ i vs t j = sets t₀ i vs ≡ sets t (i + j) (drop j vs)
+
+pub storing_more : (t₀ t vs : List ℕ) (i j : ℕ) → j < length vs → Storing t₀ i vs t j → Storing t₀ i vs (set t (i + j) (get_or vs j 0)) (j + 1)
+storing_more t₀ t vs i j h e =
+    let z : suc (i + j) ≡ i + (j + 1) = omega arith in
+    let d : drop j vs ≡ get_or vs j 0 ∷ drop (j + 1) vs = rw (drop-cons vs j 0 h, add-one) in
+    e ∙ rw d (ap (λ (k : ℕ). sets (set t (i + j) (get_or vs j 0)) k (drop (j + 1) vs)) z)

@@ -6,12 +6,13 @@
 
 ghost use Rattle.std.specs.Prelude.{◌≡◌, [], ◌∷◌, ◌++◌, ◌<◌, ◌≤◌, ◌^◌, length, get_or, set, drop, replicate};
 ghost use Rattle.std.proofs.lemmas.List.Edits.{sets};
+ghost use Rattle.words.specs.Cells.{Narrow};
 
 // The number at place i; 0 where the buffer has no such place.
 pub fn at(s: &[u32], i: usize) -> usize
     ensures { result ≡ get_or s.now i 0 }
 {
-    if i < s.len() { wide(s[i]) } else { 0 }
+    if i < s.len() { s[i] as usize } else { 0 }
 }
 
 // The number v at place i, all else as it was. It must fit a cell.
@@ -29,38 +30,17 @@ pub fn wipe(s: &mut [u32], n: usize)
     requires { n ≤ length s.old }
     ensures { s.new ≡ replicate n 0 ++ drop n s.old }
 {
-    let mut i = 0;
-    while i < n {
-        s[i] = 0;
-        i += 1;
-    }
+    s[..n].fill(0);
 }
 
-// Two numbers from place i on, all else as it was. They must fit a cell.
-pub fn put2(s: &mut [u32], i: usize, a: usize, b: usize)
-    requires { (a < 2 ^ 32) × (b < 2 ^ 32) }
-    ensures { s.new ≡ sets s.old i (a ∷ b ∷ []) }
+// Numbers from place i on, all else as it was. They must fit a cell.
+pub fn put_all(s: &mut [u32], i: usize, vs: &[usize])
+    requires { Narrow vs.now }
+    ensures { s.new ≡ sets s.old i vs.now }
 {
     if i < s.len() {
-        put(s, i, a);
-        put(s, i + 1, b);
+        for (j, v) in vs.iter().enumerate() {
+            put(s, i + j, *v);
+        }
     }
-}
-
-// Four numbers from place i on, all else as it was. They must fit a cell.
-pub fn put4(s: &mut [u32], i: usize, a: usize, b: usize, c: usize, d: usize)
-    requires { (a < 2 ^ 32) × (b < 2 ^ 32) × (c < 2 ^ 32) × (d < 2 ^ 32) }
-    ensures { s.new ≡ sets s.old i (a ∷ b ∷ c ∷ d ∷ []) }
-{
-    if i < s.len() {
-        put2(s, i, a, b);
-        put2(s, i + 2, c, d);
-    }
-}
-
-// A cell's number.
-fn wide(x: u32) -> usize
-    ensures { result ≡ x }
-{
-    x as usize
 }

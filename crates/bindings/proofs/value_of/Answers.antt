@@ -1,18 +1,23 @@
--- The tests on the kind say which value it is.
-use Rattle.bindings.proofs.Numbers.{value_0, value_1, value_2, value_3, value_4}
+-- The kind says which value it is.
+use Rattle.bindings.specs.Numbers.{value_of}
+use Rattle.bindings.proofs.Numbers.{value_4}
 use Rattle.bindings.proofs.value_of.Goals as goal
 
-pub returns-then-kind-eq-PROP : goal.returns-then-kind-eq-PROP
-returns-then-kind-eq-PROP c = search value_0
+pub returns-in-0 : goal.returns-in-0
+unfolding value_of
+returns-in-0 c = rw c.in-0.is
 
-pub returns-then-kind-eq-CONSTRUCTOR : goal.returns-then-kind-eq-CONSTRUCTOR
-returns-then-kind-eq-CONSTRUCTOR c = search value_1
+pub returns-in-1 : goal.returns-in-1
+unfolding value_of
+returns-in-1 c = rw c.in-1.is
 
-pub returns-then-kind-eq-RULE : goal.returns-then-kind-eq-RULE
-returns-then-kind-eq-RULE c = search value_2
+pub returns-in-2 : goal.returns-in-2
+unfolding value_of
+returns-in-2 c = rw c.in-2.is
 
-pub returns-then-kind-eq-FUNCTION : goal.returns-then-kind-eq-FUNCTION
-returns-then-kind-eq-FUNCTION c = search value_3
+pub returns-in-3 : goal.returns-in-3
+unfolding value_of
+returns-in-3 c = rw c.in-3.is
 
-pub returns : goal.returns
-returns c = search value_4
+pub returns-in_default : goal.returns-in_default
+returns-in_default c = search value_4

@@ -2,26 +2,22 @@
 use Rattle.certificates.proofs.Certifying.{count_fits, recording, proving, conclusion_fits, emits}
 use Rattle.certificates.proofs.emit.Goals as goal
 
-pub emit_number-a-requires : goal.emit_number-a-requires
-emit_number-a-requires c = count_fits _ _ _ _ _ _ _ _ _ c.requires
+pub number-requires : goal.number-requires
+number-requires g c = rw c.requires.1 (count_fits _ _ _ _ _ _ _ _ _ c.requires.0)
 
-pub emit_records-b-requires : goal.emit_records-b-requires
-emit_records-b-requires c = recording _ _ _ _ _ _ _ _ _ _ _ c.emit_number-a.ensures c.requires
+pub emit_records-requires : goal.emit_records-requires
+emit_records-requires g c = recording _ _ _ _ _ _ _ _ _ _ _ (rw c.requires.1 at c.number.ensures.emitted) c.requires.0
 
-pub emit_proof-c-requires : goal.emit_proof-c-requires
-emit_proof-c-requires c =
-    let emit-number = c.emit_number-a in
-    proving _ _ _ _ _ _ _ _ _ _ _ emit-number.ensures _ _ c.emit_records-b.ensures c.requires
+pub emit_proof-requires : goal.emit_proof-requires
+emit_proof-requires g c = proving _ _ _ _ _ _ _ _ _ _ _ (rw c.requires.1 at c.number.ensures.emitted) _ _ c.emit_records.ensures.emitted c.requires.0
 
 pub emit_place-requires : goal.emit_place-requires
-emit_place-requires c =
-    let emit-number = c.emit_number-a in
-    let emit-records = c.emit_records-b in
-    conclusion_fits _ _ _ _ _ _ _ _ _ _ _ emit-number.ensures _ _ emit-records.ensures _ _ c.emit_proof-c.ensures c.requires
+emit_place-requires g c =
+    let records = c.emit_records in
+    conclusion_fits _ _ _ _ _ _ _ _ _ _ _ (rw c.requires.1 at c.number.ensures.emitted) _ _ records.ensures.emitted _ _ c.emit_proof.ensures.emitted c.requires.0
 
-pub returns : goal.returns
-returns c =
-    let emit-number = c.emit_number-a in
-    let emit-records = c.emit_records-b in
-    let emit-proof = c.emit_proof-c in
-    emits _ _ _ _ _ _ _ _ _ _ _ emit-number.ensures _ _ emit-records.ensures _ _ emit-proof.ensures _ _ c.emit_place.ensures
+pub returns-clause-emitted : goal.returns-clause-emitted
+returns-clause-emitted g c =
+    let records = c.emit_records in
+    let proof = c.emit_proof in
+    emits _ _ _ _ _ _ _ _ _ _ _ (rw c.requires.1 at c.number.ensures.emitted) _ _ records.ensures.emitted _ _ proof.ensures.emitted _ _ c.emit_place.ensures.emitted

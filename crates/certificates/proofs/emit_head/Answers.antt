@@ -2,21 +2,20 @@
 use Rattle.certificates.proofs.Pieces.{head_fits, rule_fits, rule_emitted, head_emitted}
 use Rattle.certificates.proofs.emit_head.Goals as goal
 
-pub emit_number-next-requires : goal.emit_number-next-requires
-emit_number-next-requires c = rw c.at-token.ensures (head_fits _ _ _ _ _ c.requires.0 c.requires.2)
+pub number-requires : goal.number-requires
+number-requires g c = rw c.at-token.ensures (head_fits _ _ _ _ _ c.requires.0 c.requires.2)
 
-pub emit_number-requires : goal.emit_number-requires
-emit_number-requires c =
+pub number-requires-then-token-eq-RULE : goal.number-requires-then-token-eq-RULE
+number-requires-then-token-eq-RULE g c =
     let at1 = c.at-token in
-    rw c.at.ensures (rule_fits _ _ _ _ _ c.requires.0 c.requires.2 _ _ (rw at1.ensures at c.emit_number-next.ensures) (rw at1.ensures at c.if-token-eq-RULE.true))
+    rw c.at.ensures (rule_fits _ _ _ _ _ c.requires.0 c.requires.2 _ _ (rw at1.ensures at c.number.ensures.emitted) (rw at1.ensures at c.if-token-eq-RULE.true))
 
-pub returns-then-token-eq-RULE : goal.returns-then-token-eq-RULE
-returns-then-token-eq-RULE c =
+pub returns-then-token-eq-RULE-clause-emitted : goal.returns-then-token-eq-RULE-clause-emitted
+returns-then-token-eq-RULE-clause-emitted g c =
     let at1 = c.at-token in
-    let emit-number = c.emit_number-next in
-    rule_emitted _ _ _ _ _ c.requires.0 c.requires.2 _ _ (rw at1.ensures at emit-number.ensures) _ _ (rw at1.ensures at c.if-token-eq-RULE.true) (rw c.at.ensures at c.emit_number.ensures)
+    rule_emitted _ _ _ _ _ c.requires.0 c.requires.2 _ _ (rw at1.ensures at c.number.ensures.emitted) _ _ (rw at1.ensures at c.if-token-eq-RULE.true) (rw c.at.ensures at c.number-then-token-eq-RULE.ensures.emitted)
 
-pub returns : goal.returns
-returns c =
+pub returns-else-token-eq-RULE-clause-emitted : goal.returns-else-token-eq-RULE-clause-emitted
+returns-else-token-eq-RULE-clause-emitted g c =
     let at1 = c.at-token in
-    head_emitted _ _ _ _ _ c.requires.0 c.requires.2 _ _ (rw at1.ensures at c.emit_number-next.ensures) (rw at1.ensures at c.if-token-eq-RULE.false)
+    head_emitted _ _ _ _ _ c.requires.0 c.requires.2 _ _ (rw at1.ensures at c.number.ensures.emitted) (rw at1.ensures at c.if-token-eq-RULE.false)

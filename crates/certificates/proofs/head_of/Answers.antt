@@ -1,25 +1,25 @@
 -- The first token tells the kind of node.
 use native.Mathlib.Omega.{arith}
-use Prim.Native.Nat.{ℕ, zero, suc}
+use Prim.Native.Nat.{ℕ, zero, suc, ◌≤◌}
 use mathlib.Core.Path.{◌≡◌, refl}
+use borrow.Author.Rules.{rules}
 use Rattle.certificates.specs.declared.Head.{Head}
 use Rattle.certificates.specs.Emitted.{head_by}
 use Rattle.certificates.proofs.head_of.Goals as goal
 
-other : (x y : ℕ) → (x ≡ 0 → ⊥) → (x ≡ 1 → ⊥) → ◌≡◌ {A = Head} (record { width = 1; names = 1; rules = record { 0 = 0 } }) (head_by x y)
+other : (x y : ℕ) → 2 ≤ x → ◌≡◌ {A = Head} (record { width = 1; names = 1; rules = record { 0 = 0 } }) (head_by x y)
 unfolding head_by
-other zero y h g = absurd (h refl)
-other (suc zero) y h g = absurd (g refl)
-other (suc (suc x)) y h g = refl
+other zero y h = absurd (omega arith)
+other (suc zero) y h = absurd (omega arith)
+other (suc (suc x)) y h = refl
 
-pub returns-then-token-eq-RULE : goal.returns-then-token-eq-RULE
+pub returns-in-0 : goal.returns-in-0
 unfolding head_by
-returns-then-token-eq-RULE c = rw (← c.at-token.ensures, c.if-token-eq-RULE.true) (rw (c.arguments.ensures, c.at.ensures) refl, omega arith, omega arith, omega arith)
+returns-in-0 c = rw (← c.at.ensures, c.in-0.is) (rw (c.arguments.ensures, c.at-in-0.ensures) refl, omega arith, omega arith, omega arith)
 
-pub returns-then-token-eq-SEQUENCE : goal.returns-then-token-eq-SEQUENCE
+pub returns-in-1 : goal.returns-in-1
 unfolding head_by
-returns-then-token-eq-SEQUENCE c = rw (← c.at-token.ensures, c.if-token-eq-SEQUENCE.true) (refl, omega arith, omega arith, omega arith)
+returns-in-1 c = rw (← c.at.ensures, c.in-1.is) (refl, omega arith, omega arith, omega arith)
 
-pub returns : goal.returns
-unfolding head_by
-returns c = (rw (← c.at-token.ensures) (other _ _ c.if-token-eq-RULE.false c.if-token-eq-SEQUENCE.false), omega arith, omega arith, omega arith)
+pub returns-in_default : goal.returns-in_default
+returns-in_default c = let h : 2 ≤ c.at.result = search rules in (rw (← c.at.ensures) (other _ _ h), omega arith, omega arith, omega arith)

@@ -1,25 +1,13 @@
--- `checker::is_short` meets its contract: the first test that holds names a buffer that is short; where none does, all are long enough.
-use native.Mathlib.Omega.{arith}
-use mathlib.Core.Path.{sym}
-use Rattle.theorems.proofs.Buffers.{short_at}
-use Rattle.checker.proofs.Scratch.{five_enough}
+-- `checker::is_short` meets its contract: the tests are those of `enough`.
+use Rattle.std.proofs.Common.{arith}
+use Rattle.std.proofs.lemmas.Bool.Decides.{nat_tests}
+use Rattle.language.specs.Doors.{enough}
 use Rattle.checker.proofs.is_short.Goals as goal
 
-pub returns-then-names-lt-NAMES : goal.returns-then-names-lt-NAMES
-returns-then-names-lt-NAMES c = sym (short_at _ _ 0 (omega arith) c.if-names-lt-NAMES.true)
-
-pub returns-then-forms-lt-FORMS : goal.returns-then-forms-lt-FORMS
-returns-then-forms-lt-FORMS c = sym (short_at _ _ 1 (omega arith) c.if-forms-lt-FORMS.true)
-
-pub returns-then-patterns-lt-PATTERNS : goal.returns-then-patterns-lt-PATTERNS
-returns-then-patterns-lt-PATTERNS c = sym (short_at _ _ 2 (omega arith) c.if-patterns-lt-PATTERNS.true)
-
 pub returns-then-phrases-lt-PHRASES : goal.returns-then-phrases-lt-PHRASES
-returns-then-phrases-lt-PHRASES c = sym (short_at _ _ 3 (omega arith) c.if-phrases-lt-PHRASES.true)
+unfolding enough
+returns-then-phrases-lt-PHRASES c = grind (arith, nat_tests)
 
-pub returns-then-base-lt-BASE : goal.returns-then-base-lt-BASE
-returns-then-base-lt-BASE c = sym (short_at _ _ 4 (omega arith) c.if-base-lt-BASE.true)
-
-pub returns : goal.returns
-returns c =
-    sym (five_enough _ _ _ _ _ c.if-names-lt-NAMES.false c.if-forms-lt-FORMS.false c.if-patterns-lt-PATTERNS.false c.if-phrases-lt-PHRASES.false c.if-base-lt-BASE.false)
+pub returns-else-phrases-lt-PHRASES : goal.returns-else-phrases-lt-PHRASES
+unfolding enough
+returns-else-phrases-lt-PHRASES c = grind (arith, nat_tests)

@@ -1,13 +1,18 @@
 -- `checker::over_proof` meets its contract: a proof that is refused is refused alike over every listing of that length, and one that is read is judged.
-use mathlib.Core.Path.{sym, ◌∙◌}
+use mathlib.Core.Path.{sym, ap, ◌∙◌}
+use Rattle.std.proofs.lemmas.Result.{err_from_is_err_and}
+use Rattle.language.specs.Numbered.{numbered}
+use Rattle.checker.proofs.Mapping.{mapped_ok, mapped_err}
 use Rattle.checker.proofs.Passing.{proof_refused, proof_judged}
 use Rattle.checker.proofs.over_proof.Goals as goal
 
-pub returns-in-Refused : goal.returns-in-Refused
-returns-in-Refused c =
-    proof_refused _ _ _ _ _ _ _ _ _ _ _ c.own.ensures (λ ps l. sym c.in-Refused.is ∙ c.read_proof.ensures ps l)
+pub returns-in_err-stated : goal.returns-in_err-stated
+returns-in_err-stated c =
+    let e = err_from_is_err_and c.from_residual.result c.from_residual.ensures.1 in
+    let m = mapped_err _ _ _ c.map_err.ensures.cases _ c.in_err-stated.was in
+    rw (e.1, e.2) (proof_refused _ _ _ _ _ _ _ _ _ _ m.2 (λ ps l. sym (ap numbered m.1) ∙ c.read_proof.ensures ps l))
 
-pub returns-in-Read : goal.returns-in-Read
-returns-in-Read c =
-    let read-proof = c.read_proof in
-    proof_judged _ _ _ _ _ _ _ _ _ _ c.judge.ensures (λ ps l. sym c.in-Read.is ∙ read-proof.ensures ps l)
+pub returns : goal.returns
+returns c =
+    let e = mapped_ok _ _ _ c.map_err.ensures.cases _ c.in_ok-stated.was in
+    proof_judged _ _ _ _ _ _ _ _ _ _ c.judge.ensures (λ ps l. sym (ap numbered e) ∙ c.read_proof.ensures ps l)

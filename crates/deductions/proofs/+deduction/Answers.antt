@@ -2,9 +2,11 @@
 -- answers and the tests give the language's answer, by one law of Entering, Lets, Supposing, Announcing, Calling, Rules or Matching.
 use native.Mathlib.Omega.{arith}
 use mathlib.Core.Path.{refl}
+use Rattle.std.proofs.Common.{rules}
+use Rattle.std.proofs.lemmas.Result.{err_from_is_err_and}
 use Rattle.deductions.proofs.Entering.{spent_out, too_deep, entered, last_kind}
 use Rattle.deductions.proofs.Announcing.{by_ready, by_expression, by_fails, by_refused, by_is, ready_expression}
-use Rattle.deductions.proofs.Calling.{prop_applied, constructor_applied, function_applied, method_small, method_ready, method_applied, method_miscounted, args_none, argument_ready, argument_fails, argument_fits, arguments_ready, arguments_fail, argument_then, join_after, call_row, call_refused, callable, call_is, call_list, called_fails, applicable, called_is}
+use Rattle.deductions.proofs.Calling.{other_applied, method_small, method_ready, method_applied, method_miscounted, args_none, argument_ready, argument_fails, argument_fits, arguments_ready, arguments_fail, argument_then, join_after, call_row, call_refused, callable, call_is, call_list, called_fails, applicable, called_is}
 use mathlib.Core.List.{[], ◌∷◌}
 use Rattle.deductions.proofs.Sorts.{otherwise}
 use Rattle.deductions.proofs.Supposing.{assume_runs, hyp_row, hyp_refused, hyp_other, hyp_ready, hyp_fails, hyp_still, imply_asks, assume_is, suppose_runs, hyp_one, refute_asks, suppose_is, under_ready, under_is}
@@ -17,79 +19,44 @@ block::announced-deduce-requires t c =
     (omega (arith, c.decreases), by_ready _ c.args.site.depth _ _ _ _ _ _ c.requires.1 c.at-f.ensures c.at-d.ensures c.requires.0)
 
 pub block::announced-evaluate-requires : goal.block::announced-evaluate-requires
-block::announced-evaluate-requires t c =
-    let at1 = c.at-f in
-    let at2 = c.at-d in
-    let deduce' = c.deduce in
-    by_expression _ _ _ _ _ _ _ _ c.requires.1 at1.ensures at2.ensures _ _ c.requires.0 (rw c.in-Concluded.is at deduce'.ensures)
+block::announced-evaluate-requires t c = by_expression _ _ _ _ _ _ _ _ c.requires.1 c.at-f.ensures c.at-d.ensures _ _ c.requires.0 c.in_ok-q.ensures
 
-pub block::announced-returns-in-Done : goal.block::announced-returns-in-Done
-block::announced-returns-in-Done t c =
-    let at1 = c.at-f in
-    let at2 = c.at-d in
-    let deduce' = c.deduce in
-    let evaluate = c.evaluate in
-    by_is _ _ _ _ _ _ _ _ c.requires.1 at1.ensures at2.ensures _ _ (rw c.in-Concluded.is at deduce'.ensures) _ _ _ _ _ (rw c.in-Done.is at evaluate.ensures) c.compare.ensures
+pub block::announced-returns : goal.block::announced-returns
+block::announced-returns t c = by_is _ _ _ _ _ _ _ _ c.requires.1 c.at-f.ensures c.at-d.ensures _ _ c.in_ok-q.ensures _ _ _ _ _ c.in_ok-v.ensures c.compare.ensures
 
-pub block::announced-returns-in-Refused-evaluate : goal.block::announced-returns-in-Refused-evaluate
-block::announced-returns-in-Refused-evaluate t c =
-    let at1 = c.at-f in
-    let at2 = c.at-d in
-    let deduce' = c.deduce in
-    let evaluate = c.evaluate in
-    by_refused _ _ _ _ _ _ _ _ c.requires.1 at1.ensures at2.ensures _ _ (rw c.in-Concluded.is at deduce'.ensures) _ _ (rw c.in-Refused-evaluate.is at evaluate.ensures)
+pub block::announced-returns-in_err-v : goal.block::announced-returns-in_err-v
+block::announced-returns-in_err-v t c =
+    let e = err_from_is_err_and c.from_residual-in_err-v.result c.from_residual-in_err-v.ensures.1 in
+    rw (e.1, e.2) (by_refused _ _ _ _ _ _ _ _ c.requires.1 c.at-f.ensures c.at-d.ensures _ _ c.in_ok-q.ensures _ _ c.in_err-v.ensures)
 
-pub block::announced-returns-in-Refused : goal.block::announced-returns-in-Refused
-block::announced-returns-in-Refused t c =
-    let at1 = c.at-f in
-    let at2 = c.at-d in
-    let deduce' = c.deduce in
-    by_fails _ _ _ _ _ _ _ _ c.requires.1 at1.ensures at2.ensures _ _ (rw c.in-Refused.is at deduce'.ensures)
+pub block::announced-returns-in_err-q : goal.block::announced-returns-in_err-q
+block::announced-returns-in_err-q t c =
+    let e = err_from_is_err_and c.from_residual.result c.from_residual.ensures.1 in
+    rw (e.1, e.2) (by_fails _ _ _ _ _ _ _ _ c.requires.1 c.at-f.ensures c.at-d.ensures _ _ c.in_err-q.ensures)
 
 pub block::bind-either-requires : goal.block::bind-either-requires
 block::bind-either-requires t c =
     (omega (arith, c.decreases), ready_less _ _ _ _ _ _ _ _ _ _ _ _ _ _ c.requires.0 (let_first _ c.args.site.depth _ _ _ _ c.requires.1 _ _ c.at-f.ensures c.at-d.ensures _ _ _ _ c.requires.0) (omega arith) (omega arith) (omega arith) (omega arith))
 
-pub block::bind-join-c-requires : goal.block::bind-join-c-requires
-block::bind-join-c-requires t c =
-    let at1 = c.at-f in
-    let at2 = c.at-d in
-    let either' = c.either in
-    let r = c.requires.0.room.base in
-    join_fits _ _ _ _ _ _ _ _ _ _ _ _ (omega (arith, r)) (held _ _ _ _ _ _ _ _ _ _ _ _ _ _ c.requires.0 (let_first _ c.args.site.depth _ _ _ _ c.requires.1 _ _ at1.ensures at2.ensures _ _ _ _ c.requires.0) (rw c.in-Got.is at either'.ensures))
-
 pub block::bind-with-at2-requires : goal.block::bind-with-at2-requires
-block::bind-with-at2-requires t c =
-    let at1 = c.at-f in
-    let at2 = c.at-d in
-    let either' = c.either in
-    let_value_fits _ _ _ _ _ _ _ _ (held _ _ _ _ _ _ _ _ _ _ _ _ _ _ c.requires.0 (let_first _ c.args.site.depth _ _ _ _ c.requires.1 _ _ at1.ensures at2.ensures _ _ _ _ c.requires.0) (rw c.in-Got.is at either'.ensures))
+block::bind-with-at2-requires t c = let_value_fits _ _ _ _ _ _ _ _ (held _ _ _ _ _ _ _ _ _ _ _ _ _ _ c.requires.0 (let_first _ c.args.site.depth _ _ _ _ c.requires.1 _ _ c.at-f.ensures c.at-d.ensures _ _ _ _ c.requires.0) c.in_ok-v.ensures)
 
 pub block::bind-deduce-requires : goal.block::bind-deduce-requires
 block::bind-deduce-requires t c =
-    let at1 = c.at-f in
-    let at2 = c.at-d in
-    let either' = c.either in
-    let join = c.join-c in
-    let with1 = c.with-at2 in
-    (omega (arith, c.decreases), rw (join.ensures.0, join.ensures.1, with1.ensures.0, with1.ensures.1) (let_ready _ c.args.site.depth _ _ _ _ c.requires.1 _ _ at1.ensures at2.ensures _ _ _ c.requires.0 (held _ _ _ _ _ _ _ _ _ _ _ _ _ _ c.requires.0 (let_first _ c.args.site.depth _ _ _ _ c.requires.1 _ _ at1.ensures at2.ensures _ _ _ _ c.requires.0) (rw c.in-Got.is at either'.ensures))))
+    (omega (arith, c.decreases), rw (c.join.ensures.0, c.join.ensures.1, c.with-at2.ensures.0, c.with-at2.ensures.1) (let_ready _ c.args.site.depth _ _ _ _ c.requires.1 _ _ c.at-f.ensures c.at-d.ensures _ _ _ c.requires.0 (held _ _ _ _ _ _ _ _ _ _ _ _ _ _ c.requires.0 (let_first _ c.args.site.depth _ _ _ _ c.requires.1 _ _ c.at-f.ensures c.at-d.ensures _ _ _ _ c.requires.0) c.in_ok-v.ensures)))
 
-pub block::bind-returns-in-Got : goal.block::bind-returns-in-Got
-block::bind-returns-in-Got t c =
-    let at1 = c.at-f in
-    let at2 = c.at-d in
-    let either' = c.either in
-    let join = c.join-c in
-    let with1 = c.with-at2 in
-    let deduce' = c.deduce in
-    let_is _ _ _ _ _ _ c.requires.1 _ _ at1.ensures at2.ensures _ _ _ _ c.requires.0 (rw c.in-Got.is at either'.ensures) (rw (join.ensures.0, join.ensures.1, with1.ensures.0, with1.ensures.1) at deduce'.ensures)
+pub block::bind-join-requires : goal.block::bind-join-requires
+block::bind-join-requires t c =
+    let r = c.requires.0.room.base in
+    join_fits _ _ _ _ _ _ _ _ _ _ _ _ (omega (arith, r)) (held _ _ _ _ _ _ _ _ _ _ _ _ _ _ c.requires.0 (let_first _ c.args.site.depth _ _ _ _ c.requires.1 _ _ c.at-f.ensures c.at-d.ensures _ _ _ _ c.requires.0) c.in_ok-v.ensures)
 
-pub block::bind-returns-in-Lacking : goal.block::bind-returns-in-Lacking
-block::bind-returns-in-Lacking t c =
-    let at1 = c.at-f in
-    let at2 = c.at-d in
-    let either' = c.either in
-    let_refused _ _ _ _ _ _ c.requires.1 _ _ at1.ensures at2.ensures _ _ (rw c.in-Lacking.is at either'.ensures)
+pub block::bind-returns : goal.block::bind-returns
+block::bind-returns t c = let_is _ _ _ _ _ _ c.requires.1 _ _ c.at-f.ensures c.at-d.ensures _ _ _ _ c.requires.0 c.in_ok-v.ensures (rw (c.join.ensures.0, c.join.ensures.1, c.with-at2.ensures.0, c.with-at2.ensures.1) at c.deduce.ensures)
+
+pub block::bind-returns-in_err-v : goal.block::bind-returns-in_err-v
+block::bind-returns-in_err-v t c =
+    let e = err_from_is_err_and c.from_residual.result c.from_residual.ensures.1 in
+    rw (e.1, e.2) (let_refused _ _ _ _ _ _ c.requires.1 _ _ c.at-f.ensures c.at-d.ensures _ _ c.in_err-v.ensures)
 
 pub block::block-steps-requires : goal.block::block-steps-requires
 block::block-steps-requires t c =
@@ -120,71 +87,43 @@ block::steps-either-requires t c =
 
 pub block::steps-join-requires : goal.block::steps-join-requires
 block::steps-join-requires t c =
-    let at1 = c.at-k in
-    let either' = c.either in
     let r = c.requires.ready.room.base in
-    join_fits _ _ _ _ _ _ _ _ _ _ _ _ (omega (arith, r)) (held _ _ _ _ _ _ _ _ _ _ _ _ _ _ c.requires.ready (step_in _ _ _ _ _ _ _ at1.ensures c.requires) (rw c.in-Got.is at either'.ensures))
+    join_fits _ _ _ _ _ _ _ _ _ _ _ _ (omega (arith, r)) (held _ _ _ _ _ _ _ _ _ _ _ _ _ _ c.requires.ready (step_in _ _ _ _ _ _ _ c.at-k.ensures c.requires) c.in_ok-l.ensures)
 
 pub block::steps-steps-requires : goal.block::steps-steps-requires
 block::steps-steps-requires t c =
-    let at1 = c.at-k in
-    let if1 = c.if-left-eq1 in
-    let either' = c.either in
-    let join = c.join in
     let o = c.requires.some in
-    (omega (arith, c.decreases, o), rw (join.ensures.0, join.ensures.1) (steps_ready _ _ _ _ _ _ _ at1.ensures _ _ _ _ c.requires if1.false (rw c.in-Got.is at either'.ensures)))
+    (omega (arith, c.decreases, o), rw (c.join.ensures.0, c.join.ensures.1) (steps_ready _ _ _ _ _ _ _ c.at-k.ensures _ _ _ _ c.requires c.if-left-eq1.false c.in_ok-l.ensures))
 
-pub block::steps-returns-in-Got : goal.block::steps-returns-in-Got
-block::steps-returns-in-Got t c =
-    let at1 = c.at-k in
-    let if1 = c.if-left-eq1 in
-    let either' = c.either in
-    let join = c.join in
-    let steps' = c.steps in
-    step_then _ _ _ _ _ _ _ at1.ensures _ _ _ _ _ c.requires if1.false (rw c.in-Got.is at either'.ensures) (rw (join.ensures.0, join.ensures.1) at steps'.ensures)
+pub block::steps-returns : goal.block::steps-returns
+block::steps-returns t c = step_then _ _ _ _ _ _ _ c.at-k.ensures _ _ _ _ _ c.requires c.if-left-eq1.false c.in_ok-l.ensures (rw (c.join.ensures.0, c.join.ensures.1) at c.steps.ensures)
 
-pub block::steps-returns-in-Lacking : goal.block::steps-returns-in-Lacking
-block::steps-returns-in-Lacking t c =
-    let at1 = c.at-k in
-    let if1 = c.if-left-eq1 in
-    let either' = c.either in
-    step_fails _ _ _ _ _ _ _ at1.ensures _ _ _ c.requires if1.false (rw c.in-Lacking.is at either'.ensures)
-
-pub call::apply-overflow_mul-phrase : goal.call::apply-overflow_mul-phrase
-call::apply-overflow_mul-phrase t c = let s = method_small _ _ _ _ _ _ _ c.in-Method.is c.requires in omega (arith, s)
-
-pub call::apply-overflow_add-phrase : goal.call::apply-overflow_add-phrase
-call::apply-overflow_add-phrase t c = let s = method_small _ _ _ _ _ _ _ c.in-Method.is c.requires in omega (arith, s)
-
-pub call::apply-overflow_mul-phrase-then-at-n : goal.call::apply-overflow_mul-phrase-then-at-n
-call::apply-overflow_mul-phrase-then-at-n t c = let s = method_small _ _ _ _ _ _ _ c.in-Method.is c.requires in omega (arith, s)
-
-pub call::apply-overflow_add-phrase-then-at-n : goal.call::apply-overflow_add-phrase-then-at-n
-call::apply-overflow_add-phrase-then-at-n t c = let s = method_small _ _ _ _ _ _ _ c.in-Method.is c.requires in omega (arith, s)
+pub block::steps-returns-in_err-l : goal.block::steps-returns-in_err-l
+block::steps-returns-in_err-l t c =
+    let e = err_from_is_err_and c.from_residual.result c.from_residual.ensures.1 in
+    rw (e.1, e.2) (step_fails _ _ _ _ _ _ _ c.at-k.ensures _ _ _ c.requires c.if-left-eq1.false c.in_err-l.ensures)
 
 pub call::apply-deduce-requires : goal.call::apply-deduce-requires
 call::apply-deduce-requires t c =
     (omega (arith, c.decreases), method_ready _ _ _ _ _ _ _ c.in-Method.is _ c.at-body.ensures c.requires)
 
 pub call::apply-returns-then-at-n : goal.call::apply-returns-then-at-n
-call::apply-returns-then-at-n t c =
-    let at1 = c.at in
-    let if1 = c.if-at-n in
-    let at2 = c.at-body in
-    let deduce' = c.deduce in
-    method_applied _ _ _ _ _ _ _ c.in-Method.is _ _ _ _ _ at1.ensures if1.true at2.ensures deduce'.ensures
+call::apply-returns-then-at-n t c = method_miscounted _ _ _ _ _ _ _ c.in-Method.is _ _ _ c.at.ensures c.if-at-n.true
 
 pub call::apply-returns-in-Prop : goal.call::apply-returns-in-Prop
-call::apply-returns-in-Prop t c = prop_applied _ _ _ _ _ _ _ _ _ c.in-Prop.is
-
-pub call::apply-returns-in-Constructor : goal.call::apply-returns-in-Constructor
-call::apply-returns-in-Constructor t c = constructor_applied _ _ _ _ _ _ _ _ _ c.in-Constructor.is
-
-pub call::apply-returns-in-Function : goal.call::apply-returns-in-Function
-call::apply-returns-in-Function t c = function_applied _ _ _ _ _ _ _ _ _ c.in-Function.is
+call::apply-returns-in-Prop t c = other_applied _ _ _ _ _ _ _ _ c.in-Prop.is
 
 pub call::apply-returns-else-at-n : goal.call::apply-returns-else-at-n
-call::apply-returns-else-at-n t c = method_miscounted _ _ _ _ _ _ _ c.in-Method.is _ _ _ c.at.ensures c.if-at-n.false
+call::apply-returns-else-at-n t c = method_applied _ _ _ _ _ _ _ c.in-Method.is _ _ _ _ _ c.at.ensures c.if-at-n.false c.at-body.ensures c.deduce.ensures
+
+pub call::apply-overflow_mul-row : goal.call::apply-overflow_mul-row
+call::apply-overflow_mul-row t c = let s = method_small _ _ _ _ _ _ _ c.in-Method.is c.requires in omega (arith, s)
+
+pub call::apply-overflow_add-row : goal.call::apply-overflow_add-row
+call::apply-overflow_add-row t c = let s = method_small _ _ _ _ _ _ _ c.in-Method.is c.requires in omega (arith, s)
+
+pub call::apply-overflow_add-row-in-Method : goal.call::apply-overflow_add-row-in-Method
+call::apply-overflow_add-row-in-Method t c = let s = method_small _ _ _ _ _ _ _ c.in-Method.is c.requires in omega (arith, s)
 
 pub call::arguments-returns-then-left-eq0 : goal.call::arguments-returns-then-left-eq0
 call::arguments-returns-then-left-eq0 t c = args_none _ _ _ _ _ _ _ _ c.if-left-eq0.true
@@ -194,53 +133,28 @@ call::arguments-either-requires t c =
     (omega (arith, c.decreases), argument_ready _ c.args.site.depth _ _ _ _ _ _ _ c.at-k.ensures c.if-left-eq0.false c.requires)
 
 pub call::arguments-with-at2-requires : goal.call::arguments-with-at2-requires
-call::arguments-with-at2-requires t c =
-    let if1 = c.if-left-eq0 in
-    let at1 = c.at-k in
-    let either' = c.either in
-    argument_fits _ _ _ _ _ _ _ _ _ at1.ensures if1.false _ _ _ (rw c.in-Got.is at either'.ensures) c.requires
+call::arguments-with-at2-requires t c = argument_fits _ _ _ _ _ _ _ _ _ c.at-k.ensures c.if-left-eq0.false _ _ _ c.in_ok-v.ensures c.requires
 
 pub call::arguments-arguments-requires : goal.call::arguments-arguments-requires
 call::arguments-arguments-requires t c =
-    let if1 = c.if-left-eq0 in
-    let at1 = c.at-k in
-    let either' = c.either in
-    let with1 = c.with-at2 in
-    (omega (arith, c.decreases, if1.false), rw (with1.ensures.0, with1.ensures.1) (arguments_ready _ _ _ _ _ _ _ _ _ at1.ensures if1.false _ _ _ (rw c.in-Got.is at either'.ensures) c.requires))
+    (omega (arith, c.decreases, c.if-left-eq0.false), rw (c.with-at2.ensures.0, c.with-at2.ensures.1) (arguments_ready _ _ _ _ _ _ _ _ _ c.at-k.ensures c.if-left-eq0.false _ _ _ c.in_ok-v.ensures c.requires))
 
 pub call::arguments-join-requires : goal.call::arguments-join-requires
-call::arguments-join-requires t c =
-    let if1 = c.if-left-eq0 in
-    let at1 = c.at-k in
-    let either' = c.either in
-    let with1 = c.with-at2 in
-    let arguments' = c.arguments in
-    join_after _ _ _ _ _ _ _ _ _ at1.ensures if1.false _ _ _ (rw c.in-Got.is at either'.ensures) c.requires _ _ _ (rw (c.in-Pushed.is, with1.ensures.0, with1.ensures.1) at arguments'.ensures)
+call::arguments-join-requires t c = join_after _ _ _ _ _ _ _ _ _ c.at-k.ensures c.if-left-eq0.false _ _ _ c.in_ok-v.ensures c.requires _ _ _ (rw (c.with-at2.ensures.0, c.with-at2.ensures.1) at c.in_ok-env.ensures)
 
-pub call::arguments-returns-in-Pushed : goal.call::arguments-returns-in-Pushed
-call::arguments-returns-in-Pushed t c =
-    let if1 = c.if-left-eq0 in
-    let at1 = c.at-k in
-    let either' = c.either in
-    let with1 = c.with-at2 in
-    let arguments' = c.arguments in
-    rw (c.join.ensures.0, c.join.ensures.1) (argument_then _ _ _ _ _ _ _ _ _ at1.ensures if1.false _ _ _ (rw c.in-Got.is at either'.ensures) c.requires _ _ _ (rw (c.in-Pushed.is, with1.ensures.0, with1.ensures.1) at arguments'.ensures))
+pub call::arguments-returns : goal.call::arguments-returns
+call::arguments-returns t c =
+    rw (c.join.ensures.0, c.join.ensures.1) (argument_then _ _ _ _ _ _ _ _ _ c.at-k.ensures c.if-left-eq0.false _ _ _ c.in_ok-v.ensures c.requires _ _ _ (rw (c.with-at2.ensures.0, c.with-at2.ensures.1) at c.in_ok-env.ensures))
 
-pub call::arguments-returns-in-Stopped : goal.call::arguments-returns-in-Stopped
-call::arguments-returns-in-Stopped t c =
-    let if1 = c.if-left-eq0 in
-    let at1 = c.at-k in
-    let either' = c.either in
-    let with1 = c.with-at2 in
-    let arguments' = c.arguments in
-    arguments_fail _ _ _ _ _ _ _ _ _ at1.ensures if1.false _ _ _ (rw c.in-Got.is at either'.ensures) c.requires _ _ (rw (c.in-Stopped.is, with1.ensures.0, with1.ensures.1) at arguments'.ensures)
+pub call::arguments-returns-in_err-env : goal.call::arguments-returns-in_err-env
+call::arguments-returns-in_err-env t c =
+    let e = err_from_is_err_and c.from_residual-in_err-env.result c.from_residual-in_err-env.ensures.1 in
+    rw (e.1, e.2) (arguments_fail _ _ _ _ _ _ _ _ _ c.at-k.ensures c.if-left-eq0.false _ _ _ c.in_ok-v.ensures c.requires _ _ (rw (c.with-at2.ensures.0, c.with-at2.ensures.1) at c.in_err-env.ensures))
 
-pub call::arguments-returns-in-Lacking : goal.call::arguments-returns-in-Lacking
-call::arguments-returns-in-Lacking t c =
-    let if1 = c.if-left-eq0 in
-    let at1 = c.at-k in
-    let either' = c.either in
-    argument_fails _ _ _ _ _ _ _ _ _ at1.ensures if1.false _ _ (rw c.in-Lacking.is at either'.ensures)
+pub call::arguments-returns-in_err-v : goal.call::arguments-returns-in_err-v
+call::arguments-returns-in_err-v t c =
+    let e = err_from_is_err_and c.from_residual.result c.from_residual.ensures.1 in
+    rw (e.1, e.2) (argument_fails _ _ _ _ _ _ _ _ _ c.at-k.ensures c.if-left-eq0.false _ _ c.in_err-v.ensures)
 
 pub call::call-evaluate-requires : goal.call::call-evaluate-requires
 call::call-evaluate-requires t c =
@@ -248,25 +162,15 @@ call::call-evaluate-requires t c =
 
 pub call::call-called-requires : goal.call::call-called-requires
 call::call-called-requires t c =
-    let at1 = c.at-f in
-    let at2 = c.at-count in
-    let evaluate = c.evaluate in
-    (omega (arith, c.decreases), callable _ _ _ _ _ _ _ _ c.requires.1 at1.ensures at2.ensures _ _ _ _ c.requires.0 (rw c.in-Done.is at evaluate.ensures))
+    (omega (arith, c.decreases), callable _ _ _ _ _ _ _ _ c.requires.1 c.at-f.ensures c.at-count.ensures _ _ _ _ c.requires.0 c.in_ok-v.ensures)
 
-pub call::call-returns-in-Done : goal.call::call-returns-in-Done
-call::call-returns-in-Done t c =
-    let at1 = c.at-f in
-    let at2 = c.at-count in
-    let evaluate = c.evaluate in
-    let called' = c.called in
-    call_is _ _ _ _ _ _ _ _ c.requires.1 at1.ensures at2.ensures _ _ _ _ _ (rw c.in-Done.is at evaluate.ensures) called'.ensures
+pub call::call-returns : goal.call::call-returns
+call::call-returns t c = call_is _ _ _ _ _ _ _ _ c.requires.1 c.at-f.ensures c.at-count.ensures _ _ _ _ _ c.in_ok-v.ensures c.called.ensures
 
-pub call::call-returns-in-Refused : goal.call::call-returns-in-Refused
-call::call-returns-in-Refused t c =
-    let at1 = c.at-f in
-    let at2 = c.at-count in
-    let evaluate = c.evaluate in
-    call_refused _ _ _ _ _ _ _ _ c.requires.1 at1.ensures at2.ensures _ _ (rw c.in-Refused.is at evaluate.ensures)
+pub call::call-returns-in_err-v : goal.call::call-returns-in_err-v
+call::call-returns-in_err-v t c =
+    let e = err_from_is_err_and c.from_residual.result c.from_residual.ensures.1 in
+    rw (e.1, e.2) (call_refused _ _ _ _ _ _ _ _ c.requires.1 c.at-f.ensures c.at-count.ensures _ _ c.in_err-v.ensures)
 
 pub call::called-arguments-requires : goal.call::called-arguments-requires
 call::called-arguments-requires t c =
@@ -275,251 +179,141 @@ call::called-arguments-requires t c =
 
 pub call::called-apply-requires : goal.call::called-apply-requires
 call::called-apply-requires t c =
-    let scope = c.scope-onto in
-    let arguments' = c.arguments in
-    (omega (arith, c.decreases), applicable _ _ _ _ _ _ _ _ c.requires _ _ _ (rw (c.in-Pushed.is, scope.ensures) at arguments'.ensures))
+    (omega (arith, c.decreases), applicable _ _ _ _ _ _ _ _ c.requires _ _ _ (rw c.scope-onto.ensures at c.in_ok-env.ensures))
 
-pub call::called-returns-in-Pushed : goal.call::called-returns-in-Pushed
-call::called-returns-in-Pushed t c =
-    let scope = c.scope-onto in
-    let arguments' = c.arguments in
-    let apply' = c.apply in
-    called_is _ _ _ _ _ _ _ _ c.requires _ _ _ (rw (c.in-Pushed.is, scope.ensures) at arguments'.ensures) _ apply'.ensures
+pub call::called-returns : goal.call::called-returns
+call::called-returns t c = called_is _ _ _ _ _ _ _ _ c.requires _ _ _ (rw c.scope-onto.ensures at c.in_ok-env.ensures) _ c.apply.ensures
 
-pub call::called-returns-in-Stopped : goal.call::called-returns-in-Stopped
-call::called-returns-in-Stopped t c =
-    let scope = c.scope-onto in
-    let arguments' = c.arguments in
-    called_fails _ _ _ _ _ _ _ _ c.requires _ _ (rw (c.in-Stopped.is, scope.ensures) at arguments'.ensures)
-
-pub deduce-returns-then-remaining-eq0 : goal.deduce-returns-then-remaining-eq0
-deduce-returns-then-remaining-eq0 t c = spent_out _ _ _ _ _ _ c.if-remaining-eq0.true
+pub call::called-returns-in_err-env : goal.call::called-returns-in_err-env
+call::called-returns-in_err-env t c =
+    let e = err_from_is_err_and c.from_residual.result c.from_residual.ensures.1 in
+    rw (e.1, e.2) (called_fails _ _ _ _ _ _ _ _ c.requires _ _ (rw c.scope-onto.ensures at c.in_err-env.ensures))
 
 pub deduce-returns-then-site-eq0 : goal.deduce-returns-then-site-eq0
-deduce-returns-then-site-eq0 t c = too_deep _ _ _ _ _ _ c.if-remaining-eq0.false c.if-site-eq0.true
+deduce-returns-then-site-eq0 t c = too_deep _ _ _ _ _ _ c.if-at-eq0.false c.if-site-eq0.true
 
 pub deduce-returns : goal.deduce-returns
-deduce-returns t c =
-    let if1 = c.if-remaining-eq0 in
-    let if2 = c.if-site-eq0 in
-    let begin = c.begin-at1 in
-    let step' = c.step in
-    entered _ _ _ _ _ _ _ if1.false if2.false (rw begin.ensures at step'.ensures)
+deduce-returns t c = entered _ _ _ _ _ _ _ c.if-at-eq0.false c.if-site-eq0.false (rw c.begin-begun.ensures at c.step.ensures)
+
+pub deduce-returns-then-at-eq0 : goal.deduce-returns-then-at-eq0
+deduce-returns-then-at-eq0 t c = spent_out _ _ _ _ _ _ c.if-at-eq0.true
 
 pub dmatch::clause-choose-requires : goal.dmatch::clause-choose-requires
 dmatch::clause-choose-requires t c = clauses_offered _ _ _ _ _ _ _ c.at-count.ensures c.requires.kind c.requires
 
-pub dmatch::clause-bind_parts-env-requires : goal.dmatch::clause-bind_parts-env-requires
-dmatch::clause-bind_parts-env-requires t c =
-    let at1 = c.at-count in
-    parts_bindable _ _ _ _ _ _ _ at1.ensures c.requires.kind _ _ (rw c.in-Chosen.is at c.choose.ensures) c.requires
-
 pub dmatch::clause-more-at1-requires : goal.dmatch::clause-more-at1-requires
-dmatch::clause-more-at1-requires t c =
-    let at1 = c.at-count in
-    let choose = c.choose in
-    parts_fit _ _ _ _ _ _ _ at1.ensures c.requires.kind _ _ (rw c.in-Chosen.is at choose.ensures) c.requires
+dmatch::clause-more-at1-requires t c = parts_fit _ _ _ _ _ _ _ c.at-count.ensures c.requires.kind _ _ (rw c.in-Some.is at c.choose.ensures) c.requires
 
 pub dmatch::clause-deduce-requires : goal.dmatch::clause-deduce-requires
 dmatch::clause-deduce-requires t c =
-    let at1 = c.at-count in
-    let choose = c.choose in
-    let bind_parts = c.bind_parts-env in
-    (omega (arith, c.decreases), rw c.more-at1.ensures (clause_ready _ _ _ _ _ _ _ at1.ensures c.requires.kind _ _ (rw c.in-Chosen.is at choose.ensures) _ _ bind_parts.ensures c.requires))
+    (omega (arith, c.decreases), rw c.more-at1.ensures (clause_ready _ _ _ _ _ _ _ c.at-count.ensures c.requires.kind _ _ (rw c.in-Some.is at c.choose.ensures) _ _ c.bind_parts.ensures c.requires))
 
-pub dmatch::clause-returns-in-Chosen : goal.dmatch::clause-returns-in-Chosen
-dmatch::clause-returns-in-Chosen t c =
-    let at1 = c.at-count in
-    let choose = c.choose in
-    let bind_parts = c.bind_parts-env in
-    let more = c.more-at1 in
-    let deduce' = c.deduce in
-    clause_runs _ _ _ _ _ _ _ at1.ensures c.requires.kind _ _ (rw c.in-Chosen.is at choose.ensures) _ _ bind_parts.ensures _ _ c.requires (rw more.ensures at deduce'.ensures)
+pub dmatch::clause-bind_parts-requires : goal.dmatch::clause-bind_parts-requires
+dmatch::clause-bind_parts-requires t c = parts_bindable _ _ _ _ _ _ _ c.at-count.ensures c.requires.kind _ _ (rw c.in-Some.is at c.choose.ensures) c.requires
 
-pub dmatch::clause-returns-in-Unfit : goal.dmatch::clause-returns-in-Unfit
-dmatch::clause-returns-in-Unfit t c =
-    none_fits _ _ _ _ _ _ _ c.at-count.ensures c.requires.kind _ (rw c.in-Unfit.is at c.choose.ensures)
+pub dmatch::clause-returns : goal.dmatch::clause-returns
+dmatch::clause-returns t c = clause_runs _ _ _ _ _ _ _ c.at-count.ensures c.requires.kind _ _ (rw c.in-Some.is at c.choose.ensures) _ _ c.bind_parts.ensures _ _ c.requires (rw c.more-at1.ensures at c.deduce.ensures)
+
+pub dmatch::clause-returns-in_default : goal.dmatch::clause-returns-in_default
+dmatch::clause-returns-in_default t c = none_fits _ _ _ _ _ _ _ c.at-count.ensures c.requires.kind _ (rw c.in_default.is at c.choose.ensures)
 
 pub dmatch::matched-either-requires : goal.dmatch::matched-either-requires
 dmatch::matched-either-requires t c =
     (omega (arith, c.decreases), ready_less _ _ _ _ _ _ _ _ _ _ _ _ _ _ c.requires.0 (match_first _ c.args.site.depth _ _ _ _ _ c.requires.1 c.at-f.ensures _ _ _ _ c.requires.0) (omega arith) (omega arith) (omega arith) (omega arith))
 
 pub dmatch::matched-returns-in_default : goal.dmatch::matched-returns-in_default
-dmatch::matched-returns-in_default t c =
-    let at1 = c.at-f in
-    let either' = c.either in
-    match_other _ _ _ _ _ _ _ c.requires.1 at1.ensures _ _ _ (rw c.in-Got.is at either'.ensures) (otherwise c.in-Got.v c.in_default.not-Prop)
+dmatch::matched-returns-in_default t c = match_other _ _ _ _ _ _ _ c.requires.1 c.at-f.ensures _ _ _ c.in_ok-v.ensures (otherwise c.in_ok-v.v c.in_default.not-Prop)
 
 pub dmatch::matched-clause-requires : goal.dmatch::matched-clause-requires
 dmatch::matched-clause-requires t c =
-    let at1 = c.at-f in
-    let either' = c.either in
-    (omega (arith, c.decreases), matching _ _ _ _ _ _ _ c.requires.1 at1.ensures _ _ _ (rw c.in-Got.is at either'.ensures) _ c.in-Prop.is c.requires.0)
+    (omega (arith, c.decreases), matching _ _ _ _ _ _ _ c.requires.1 c.at-f.ensures _ _ _ c.in_ok-v.ensures _ c.in-Prop.is c.requires.0)
 
-pub dmatch::matched-returns-in-Prop : goal.dmatch::matched-returns-in-Prop
-dmatch::matched-returns-in-Prop t c =
-    let at1 = c.at-f in
-    let either' = c.either in
-    let clause' = c.clause in
-    match_is _ _ _ _ _ _ _ c.requires.1 at1.ensures _ _ _ (rw c.in-Got.is at either'.ensures) _ c.in-Prop.is c.requires.0 _ clause'.ensures
+pub dmatch::matched-returns : goal.dmatch::matched-returns
+dmatch::matched-returns t c = match_is _ _ _ _ _ _ _ c.requires.1 c.at-f.ensures _ _ _ c.in_ok-v.ensures _ c.in-Prop.is c.requires.0 _ c.clause.ensures
 
-pub dmatch::matched-returns-in-Lacking : goal.dmatch::matched-returns-in-Lacking
-dmatch::matched-returns-in-Lacking t c =
-    let at1 = c.at-f in
-    let either' = c.either in
-    match_refused _ _ _ _ _ _ _ c.requires.1 at1.ensures _ _ (rw c.in-Lacking.is at either'.ensures)
+pub dmatch::matched-returns-in_err-v : goal.dmatch::matched-returns-in_err-v
+dmatch::matched-returns-in_err-v t c =
+    let e = err_from_is_err_and c.from_residual.result c.from_residual.ensures.1 in
+    rw (e.1, e.2) (match_refused _ _ _ _ _ _ _ c.requires.1 c.at-f.ensures _ _ c.in_err-v.ensures)
 
-pub either-returns-in-Done : goal.either-returns-in-Done
-either-returns-in-Done t c =
-    let at1 = c.at in
-    let if1 = c.if-at-lt-METHOD_CALL in
-    let evaluate = c.evaluate in
-    rw c.plainly.ensures (either_value _ _ _ _ _ _ _ _ _ _ _ at1.ensures if1.true (rw c.in-Done.is at evaluate.ensures))
+pub either-returns-then-at-lt-METHOD_CALL : goal.either-returns-then-at-lt-METHOD_CALL
+either-returns-then-at-lt-METHOD_CALL t c = either_value _ _ _ _ _ _ _ _ _ _ _ c.at.ensures c.if-at-lt-METHOD_CALL.true c.in_ok-v.ensures
 
-pub either-returns-in-Refused : goal.either-returns-in-Refused
-either-returns-in-Refused t c =
-    let at1 = c.at in
-    let if1 = c.if-at-lt-METHOD_CALL in
-    let evaluate = c.evaluate in
-    either_refused _ _ _ _ _ _ _ _ _ at1.ensures if1.true (rw c.in-Refused.is at evaluate.ensures)
+pub either-returns-in_err-v : goal.either-returns-in_err-v
+either-returns-in_err-v t c =
+    let e = err_from_is_err_and c.from_residual.result c.from_residual.ensures.1 in
+    rw (e.1, e.2) (either_refused _ _ _ _ _ _ _ _ _ c.at.ensures c.if-at-lt-METHOD_CALL.true c.in_err-v.ensures)
 
-pub either-returns-in-Concluded : goal.either-returns-in-Concluded
-either-returns-in-Concluded t c =
-    let at1 = c.at in
-    let if1 = c.if-at-lt-METHOD_CALL in
-    let sequel = c.sequel-at1 in
-    let deduce' = c.deduce in
-    either_lemma _ _ _ _ _ _ _ _ _ (sequel_fits _ 0 _ _ _ _ _ _ _ _ (omega arith) c.requires) at1.ensures if1.false (rw (c.in-Concluded.is, sequel.ensures.0, sequel.ensures.1) at deduce'.ensures)
+pub either-returns : goal.either-returns
+either-returns t c = either_lemma _ _ _ _ _ _ _ _ _ (sequel_fits _ 0 _ _ _ _ _ _ _ _ (omega arith) c.requires) c.at.ensures c.if-at-lt-METHOD_CALL.false (rw (c.sequel-at1.ensures.0, c.sequel-at1.ensures.1) at c.in_ok-p.ensures)
 
-pub either-returns-in-Refused-deduce : goal.either-returns-in-Refused-deduce
-either-returns-in-Refused-deduce t c =
-    let at1 = c.at in
-    let if1 = c.if-at-lt-METHOD_CALL in
-    let sequel = c.sequel-at1 in
-    let deduce' = c.deduce in
-    either_fails _ _ _ _ _ _ _ _ _ (sequel_fits _ 0 _ _ _ _ _ _ _ _ (omega arith) c.requires) at1.ensures if1.false (rw (c.in-Refused-deduce.is, sequel.ensures.0, sequel.ensures.1) at deduce'.ensures)
+pub either-returns-in_err-p : goal.either-returns-in_err-p
+either-returns-in_err-p t c =
+    let e = err_from_is_err_and c.from_residual-in_err-p.result c.from_residual-in_err-p.ensures.1 in
+    rw (e.1, e.2) (either_fails _ _ _ _ _ _ _ _ _ (sequel_fits _ 0 _ _ _ _ _ _ _ _ (omega arith) c.requires) c.at.ensures c.if-at-lt-METHOD_CALL.false (rw (c.sequel-at1.ensures.0, c.sequel-at1.ensures.1) at c.in_err-p.ensures))
 
 pub given::assume-evaluate-requires : goal.given::assume-evaluate-requires
 given::assume-evaluate-requires t c =
     ready_expression _ _ _ _ _ _ _ _ _ _ c.requires.0 (hyp_row _ _ _ _ _ _ _ _ _ (assume_runs _ c.args.site.depth _ _ _ _ _ _ c.requires.1 c.at-f.ensures c.at-d.ensures) _ _ _ _ c.requires.0)
 
 pub given::assume-returns-in_default : goal.given::assume-returns-in_default
-given::assume-returns-in_default t c =
-    let at1 = c.at-f in
-    let at2 = c.at-d in
-    let evaluate = c.evaluate in
-    hyp_other _ _ _ _ _ _ _ _ _ (assume_runs _ c.args.site.depth _ _ _ _ _ _ c.requires.1 at1.ensures at2.ensures) _ _ _ _ (rw c.in-Done.is at evaluate.ensures) (otherwise c.in-Done.v c.in_default.not-Prop)
+given::assume-returns-in_default t c = hyp_other _ _ _ _ _ _ _ _ _ (assume_runs _ c.args.site.depth _ _ _ _ _ _ c.requires.1 c.at-f.ensures c.at-d.ensures) _ _ _ _ c.in_ok-v.ensures (otherwise c.in_ok-v.v c.in_default.not-Prop)
 
 pub given::assume-under-requires : goal.given::assume-under-requires
 given::assume-under-requires t c =
-    let at1 = c.at-f in
-    let at2 = c.at-d in
-    let evaluate = c.evaluate in
-    (omega (arith, c.decreases), hyp_ready _ _ _ _ _ _ _ _ _ (assume_runs _ c.args.site.depth _ _ _ _ _ _ c.requires.1 at1.ensures at2.ensures) _ _ _ _ (rw c.in-Done.is at evaluate.ensures) _ c.in-Prop.is [] _ (hyp_still _ _ _ _ _ _ _ _ (assume_runs _ c.args.site.depth _ _ _ _ _ _ c.requires.1 at1.ensures at2.ensures) _ _ _ _ (rw c.in-Done.is at evaluate.ensures) _ c.in-Prop.is) c.requires.0)
+    (omega (arith, c.decreases), hyp_ready _ _ _ _ _ _ _ _ _ (assume_runs _ c.args.site.depth _ _ _ _ _ _ c.requires.1 c.at-f.ensures c.at-d.ensures) _ _ _ _ c.in_ok-v.ensures _ c.in-Prop.is [] _ (hyp_still _ _ _ _ _ _ _ _ (assume_runs _ c.args.site.depth _ _ _ _ _ _ c.requires.1 c.at-f.ensures c.at-d.ensures) _ _ _ _ c.in_ok-v.ensures _ c.in-Prop.is) c.requires.0)
 
 pub given::assume-imply-requires : goal.given::assume-imply-requires
-given::assume-imply-requires t c =
-    let at1 = c.at-f in
-    let at2 = c.at-d in
-    let evaluate = c.evaluate in
-    let under' = c.under in
-    imply_asks _ _ _ _ _ _ _ _ (assume_runs _ c.args.site.depth _ _ _ _ _ _ c.requires.1 at1.ensures at2.ensures) _ _ _ _ (rw c.in-Done.is at evaluate.ensures) _ c.in-Prop.is _ _ c.requires.0 (rw c.in-Concluded.is at under'.ensures)
+given::assume-imply-requires t c = imply_asks _ _ _ _ _ _ _ _ (assume_runs _ c.args.site.depth _ _ _ _ _ _ c.requires.1 c.at-f.ensures c.at-d.ensures) _ _ _ _ c.in_ok-v.ensures _ c.in-Prop.is _ _ c.requires.0 c.in_ok-q.ensures
 
-pub given::assume-returns-in-Concluded : goal.given::assume-returns-in-Concluded
-given::assume-returns-in-Concluded t c =
-    let at1 = c.at-f in
-    let at2 = c.at-d in
-    let evaluate = c.evaluate in
-    let under' = c.under in
-    assume_is _ _ _ _ _ _ _ _ (assume_runs _ c.args.site.depth _ _ _ _ _ _ c.requires.1 at1.ensures at2.ensures) _ _ _ _ (rw c.in-Done.is at evaluate.ensures) _ c.in-Prop.is _ _ _ _ c.requires.0 (rw c.in-Concluded.is at under'.ensures) c.imply.ensures
+pub given::assume-returns : goal.given::assume-returns
+given::assume-returns t c = assume_is _ _ _ _ _ _ _ _ (assume_runs _ c.args.site.depth _ _ _ _ _ _ c.requires.1 c.at-f.ensures c.at-d.ensures) _ _ _ _ c.in_ok-v.ensures _ c.in-Prop.is _ _ _ _ c.requires.0 c.in_ok-q.ensures c.imply.ensures
 
-pub given::assume-returns-in-Refused-under : goal.given::assume-returns-in-Refused-under
-given::assume-returns-in-Refused-under t c =
-    let at1 = c.at-f in
-    let at2 = c.at-d in
-    let evaluate = c.evaluate in
-    let under' = c.under in
-    hyp_fails _ _ _ _ _ _ _ _ _ (assume_runs _ c.args.site.depth _ _ _ _ _ _ c.requires.1 at1.ensures at2.ensures) _ _ _ _ (rw c.in-Done.is at evaluate.ensures) _ c.in-Prop.is [] _ (hyp_still _ _ _ _ _ _ _ _ (assume_runs _ c.args.site.depth _ _ _ _ _ _ c.requires.1 at1.ensures at2.ensures) _ _ _ _ (rw c.in-Done.is at evaluate.ensures) _ c.in-Prop.is) refl _ _ (rw c.in-Refused-under.is at under'.ensures)
+pub given::assume-returns-in_err-q : goal.given::assume-returns-in_err-q
+given::assume-returns-in_err-q t c =
+    let e = err_from_is_err_and c.from_residual-in_err-q.result c.from_residual-in_err-q.ensures.1 in
+    rw (e.1, e.2) (hyp_fails _ _ _ _ _ _ _ _ _ (assume_runs _ c.args.site.depth _ _ _ _ _ _ c.requires.1 c.at-f.ensures c.at-d.ensures) _ _ _ _ c.in_ok-v.ensures _ c.in-Prop.is [] _ (hyp_still _ _ _ _ _ _ _ _ (assume_runs _ c.args.site.depth _ _ _ _ _ _ c.requires.1 c.at-f.ensures c.at-d.ensures) _ _ _ _ c.in_ok-v.ensures _ c.in-Prop.is) refl _ _ c.in_err-q.ensures)
 
-pub given::assume-returns-in-Refused : goal.given::assume-returns-in-Refused
-given::assume-returns-in-Refused t c =
-    let at1 = c.at-f in
-    let at2 = c.at-d in
-    let evaluate = c.evaluate in
-    hyp_refused _ _ _ _ _ _ _ _ _ (assume_runs _ c.args.site.depth _ _ _ _ _ _ c.requires.1 at1.ensures at2.ensures) _ _ (rw c.in-Refused.is at evaluate.ensures)
+pub given::assume-returns-in_err-v : goal.given::assume-returns-in_err-v
+given::assume-returns-in_err-v t c =
+    let e = err_from_is_err_and c.from_residual.result c.from_residual.ensures.1 in
+    rw (e.1, e.2) (hyp_refused _ _ _ _ _ _ _ _ _ (assume_runs _ c.args.site.depth _ _ _ _ _ _ c.requires.1 c.at-f.ensures c.at-d.ensures) _ _ c.in_err-v.ensures)
 
 pub given::suppose-evaluate-requires : goal.given::suppose-evaluate-requires
 given::suppose-evaluate-requires t c =
     ready_expression _ _ _ _ _ _ _ _ _ _ c.requires.0 (hyp_row _ _ _ _ _ _ _ _ _ (suppose_runs _ c.args.site.depth _ _ _ _ _ _ c.requires.1 c.at-f.ensures c.at-d.ensures) _ _ _ _ c.requires.0)
 
 pub given::suppose-returns-in_default : goal.given::suppose-returns-in_default
-given::suppose-returns-in_default t c =
-    let at1 = c.at-f in
-    let at2 = c.at-d in
-    let evaluate = c.evaluate in
-    hyp_other _ _ _ _ _ _ _ _ _ (suppose_runs _ c.args.site.depth _ _ _ _ _ _ c.requires.1 at1.ensures at2.ensures) _ _ _ _ (rw c.in-Done.is at evaluate.ensures) (otherwise c.in-Done.v c.in_default.not-Prop)
+given::suppose-returns-in_default t c = hyp_other _ _ _ _ _ _ _ _ _ (suppose_runs _ c.args.site.depth _ _ _ _ _ _ c.requires.1 c.at-f.ensures c.at-d.ensures) _ _ _ _ c.in_ok-v.ensures (otherwise c.in_ok-v.v c.in_default.not-Prop)
 
 pub given::suppose-under-requires : goal.given::suppose-under-requires
 given::suppose-under-requires t c =
-    let at1 = c.at-f in
-    let at2 = c.at-d in
-    let evaluate = c.evaluate in
-    let sequence = c.sequence-n in
-    (omega (arith, c.decreases), rw (sequence.ensures.0, sequence.ensures.1) (hyp_ready _ _ _ _ _ _ _ _ _ (suppose_runs _ c.args.site.depth _ _ _ _ _ _ c.requires.1 at1.ensures at2.ensures) _ _ _ _ (rw c.in-Done.is at evaluate.ensures) _ c.in-Prop.is (1 ∷ []) _ (hyp_one _ _ _ _ _ _ _ _ (suppose_runs _ c.args.site.depth _ _ _ _ _ _ c.requires.1 at1.ensures at2.ensures) _ _ _ _ (rw c.in-Done.is at evaluate.ensures) _ c.in-Prop.is (sequel_fits _ 0 _ _ _ _ _ _ _ _ (omega arith) c.requires.0)) c.requires.0))
+    (omega (arith, c.decreases), rw (c.sequence.ensures.0, c.sequence.ensures.1) (hyp_ready _ _ _ _ _ _ _ _ _ (suppose_runs _ c.args.site.depth _ _ _ _ _ _ c.requires.1 c.at-f.ensures c.at-d.ensures) _ _ _ _ c.in_ok-v.ensures _ c.in-Prop.is (1 ∷ []) _ (hyp_one _ _ _ _ _ _ _ _ (suppose_runs _ c.args.site.depth _ _ _ _ _ _ c.requires.1 c.at-f.ensures c.at-d.ensures) _ _ _ _ c.in_ok-v.ensures _ c.in-Prop.is (sequel_fits _ 0 _ _ _ _ _ _ _ _ (omega arith) c.requires.0)) c.requires.0))
 
 pub given::suppose-refute-requires : goal.given::suppose-refute-requires
-given::suppose-refute-requires t c =
-    let at1 = c.at-f in
-    let at2 = c.at-d in
-    let evaluate = c.evaluate in
-    let sequence = c.sequence-n in
-    let under' = c.under in
-    refute_asks _ _ _ _ _ _ _ _ (suppose_runs _ c.args.site.depth _ _ _ _ _ _ c.requires.1 at1.ensures at2.ensures) _ _ _ _ (rw c.in-Done.is at evaluate.ensures) _ c.in-Prop.is (sequel_fits _ 0 _ _ _ _ _ _ _ _ (omega arith) c.requires.0) _ _ c.requires.0 (rw (c.in-Concluded.is, sequence.ensures.0, sequence.ensures.1) at under'.ensures)
+given::suppose-refute-requires t c = refute_asks _ _ _ _ _ _ _ _ (suppose_runs _ c.args.site.depth _ _ _ _ _ _ c.requires.1 c.at-f.ensures c.at-d.ensures) _ _ _ _ c.in_ok-v.ensures _ c.in-Prop.is (sequel_fits _ 0 _ _ _ _ _ _ _ _ (omega arith) c.requires.0) _ _ c.requires.0 (rw (c.sequence.ensures.0, c.sequence.ensures.1) at c.in_ok-q.ensures)
 
-pub given::suppose-returns-in-Concluded : goal.given::suppose-returns-in-Concluded
-given::suppose-returns-in-Concluded t c =
-    let at1 = c.at-f in
-    let at2 = c.at-d in
-    let evaluate = c.evaluate in
-    let sequence = c.sequence-n in
-    let under' = c.under in
-    let refute = c.refute in
-    suppose_is _ _ _ _ _ _ _ _ (suppose_runs _ c.args.site.depth _ _ _ _ _ _ c.requires.1 at1.ensures at2.ensures) _ _ _ _ (rw c.in-Done.is at evaluate.ensures) _ c.in-Prop.is (sequel_fits _ 0 _ _ _ _ _ _ _ _ (omega arith) c.requires.0) _ _ _ _ _ c.requires.0 (rw (c.in-Concluded.is, sequence.ensures.0, sequence.ensures.1) at under'.ensures) refute.auto.tokens refute.ensures
+pub given::suppose-returns : goal.given::suppose-returns
+given::suppose-returns t c =
+    suppose_is _ _ _ _ _ _ _ _ (suppose_runs _ c.args.site.depth _ _ _ _ _ _ c.requires.1 c.at-f.ensures c.at-d.ensures) _ _ _ _ c.in_ok-v.ensures _ c.in-Prop.is (sequel_fits _ 0 _ _ _ _ _ _ _ _ (omega arith) c.requires.0) _ _ _ _ _ c.requires.0 (rw (c.sequence.ensures.0, c.sequence.ensures.1) at c.in_ok-q.ensures) c.refute.auto.tokens c.refute.ensures
 
-pub given::suppose-returns-in-Refused-under : goal.given::suppose-returns-in-Refused-under
-given::suppose-returns-in-Refused-under t c =
-    let at1 = c.at-f in
-    let at2 = c.at-d in
-    let evaluate = c.evaluate in
-    let sequence = c.sequence-n in
-    let under' = c.under in
-    hyp_fails _ _ _ _ _ _ _ _ _ (suppose_runs _ c.args.site.depth _ _ _ _ _ _ c.requires.1 at1.ensures at2.ensures) _ _ _ _ (rw c.in-Done.is at evaluate.ensures) _ c.in-Prop.is (1 ∷ []) _ (hyp_one _ _ _ _ _ _ _ _ (suppose_runs _ c.args.site.depth _ _ _ _ _ _ c.requires.1 at1.ensures at2.ensures) _ _ _ _ (rw c.in-Done.is at evaluate.ensures) _ c.in-Prop.is (sequel_fits _ 0 _ _ _ _ _ _ _ _ (omega arith) c.requires.0)) refl _ _ (rw (c.in-Refused-under.is, sequence.ensures.0, sequence.ensures.1) at under'.ensures)
+pub given::suppose-returns-in_err-q : goal.given::suppose-returns-in_err-q
+given::suppose-returns-in_err-q t c =
+    let e = err_from_is_err_and c.from_residual-in_err-q.result c.from_residual-in_err-q.ensures.1 in
+    rw (e.1, e.2) (hyp_fails _ _ _ _ _ _ _ _ _ (suppose_runs _ c.args.site.depth _ _ _ _ _ _ c.requires.1 c.at-f.ensures c.at-d.ensures) _ _ _ _ c.in_ok-v.ensures _ c.in-Prop.is (1 ∷ []) _ (hyp_one _ _ _ _ _ _ _ _ (suppose_runs _ c.args.site.depth _ _ _ _ _ _ c.requires.1 c.at-f.ensures c.at-d.ensures) _ _ _ _ c.in_ok-v.ensures _ c.in-Prop.is (sequel_fits _ 0 _ _ _ _ _ _ _ _ (omega arith) c.requires.0)) refl _ _ (rw (c.sequence.ensures.0, c.sequence.ensures.1) at c.in_err-q.ensures))
 
-pub given::suppose-returns-in-Refused : goal.given::suppose-returns-in-Refused
-given::suppose-returns-in-Refused t c =
-    let at1 = c.at-f in
-    let at2 = c.at-d in
-    let evaluate = c.evaluate in
-    hyp_refused _ _ _ _ _ _ _ _ _ (suppose_runs _ c.args.site.depth _ _ _ _ _ _ c.requires.1 at1.ensures at2.ensures) _ _ (rw c.in-Refused.is at evaluate.ensures)
+pub given::suppose-returns-in_err-v : goal.given::suppose-returns-in_err-v
+given::suppose-returns-in_err-v t c =
+    let e = err_from_is_err_and c.from_residual.result c.from_residual.ensures.1 in
+    rw (e.1, e.2) (hyp_refused _ _ _ _ _ _ _ _ _ (suppose_runs _ c.args.site.depth _ _ _ _ _ _ c.requires.1 c.at-f.ensures c.at-d.ensures) _ _ c.in_err-v.ensures)
 
 pub given::under-deduce-requires : goal.given::under-deduce-requires
 given::under-deduce-requires t c =
-    let put = c.put in
-    let hypothesis' = c.hypothesis-n in
-    (omega (arith, c.decreases), (rw (put.ensures, hypothesis'.ensures.0, hypothesis'.ensures.1) (under_ready _ 0 _ _ _ _ _ c.requires), c.requires.kind))
+    (omega (arith, c.decreases), (rw (c.put.ensures, c.hypothesis.ensures.0, c.hypothesis.ensures.1) (under_ready _ 0 _ _ _ _ _ c.requires), c.requires.kind))
 
 pub given::under-returns : goal.given::under-returns
-given::under-returns t c =
-    let put = c.put in
-    let hypothesis' = c.hypothesis-n in
-    let deduce' = c.deduce in
-    under_is _ _ _ _ _ _ _ _ c.requires (rw (put.ensures, hypothesis'.ensures.0, hypothesis'.ensures.1) at deduce'.ensures)
+given::under-returns t c = under_is _ _ _ _ _ _ _ _ c.requires (rw (c.put.ensures, c.hypothesis.ensures.0, c.hypothesis.ensures.1) at c.deduce.ensures)
 
 pub step-matched-requires : goal.step-matched-requires
 step-matched-requires t c =
-    let at1 = c.at-kind in
-    let if1 = c.if-kind-eq-METHOD_CALL in
-    let if2 = c.if-kind-eq-ASSUME in
-    let if3 = c.if-kind-eq-SUPPOSE in
-    let if4 = c.if-kind-eq-DLET in
-    (omega (arith, c.decreases), (c.requires.0, last_kind _ _ _ _ _ _ _ _ _ _ c.requires.0 c.requires.1 at1.ensures if1.false if2.false if3.false if4.false c.if-kind-eq-BY.false c.if-kind-eq-BLOCK.false))
+    (omega (arith, c.decreases), (c.requires.0, last_kind _ _ _ _ _ _ _ _ _ _ c.requires.0 c.requires.1 c.at.ensures (search rules) (search rules) (search rules) (search rules) (search rules) (search rules)))

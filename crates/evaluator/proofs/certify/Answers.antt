@@ -3,12 +3,10 @@ use mathlib.Core.Path.{sym, ap}
 use Rattle.evaluator.proofs.Certifying.{told, certifies}
 use Rattle.evaluator.proofs.certify.Goals as goal
 
-pub returns-in-Done : goal.returns-in-Done
+pub returns : goal.returns
 unfolding told
-returns-in-Done c =
-    certifies _ _ _ _ _ _ _ _ _ c.write.ensures _ (sym (ap (told _) c.in-Done.is))
+returns c = certifies _ _ _ _ _ _ _ _ _ c.write.ensures _ (sym (ap (told _) c.in-Some.is))
 
-pub returns-in-Short : goal.returns-in-Short
+pub returns-in_default : goal.returns-in_default
 unfolding told
-returns-in-Short c =
-    certifies _ _ _ _ _ _ _ _ _ c.write.ensures _ (sym (ap (told _) c.in-Short.is))
+returns-in_default c = certifies _ _ _ _ _ _ _ _ _ c.write.ensures _ (sym (ap (told _) c.in_default.is))

@@ -15,56 +15,35 @@ returns-then-budget-gt-BUDGET c = door_over _ _ _ _ c.if-budget-gt-BUDGET.true
 pub returns-then-is_short : goal.returns-then-is_short
 returns-then-is_short c = door_short _ _ _ _ c.if-budget-gt-BUDGET.false (sym c.is_short.ensures ∙ ap not c.if-is_short.true)
 
-pub slice_bounds-answer-end : goal.slice_bounds-answer-end
-slice_bounds-answer-end c = enough_at _ _ (sym c.is_short.ensures ∙ ap not c.if-is_short.false) 0 (omega arith)
-
 pub slice_bounds-answer-end-2 : goal.slice_bounds-answer-end-2
 slice_bounds-answer-end-2 c =
     let long = sym c.is_short.ensures ∙ ap not c.if-is_short.false in
     sym (length-take-le 9220 c.args.listing.now (enough_at _ _ long 0 (omega arith)))
-
-pub slice_bounds-answer-end-3 : goal.slice_bounds-answer-end-3
-slice_bounds-answer-end-3 c = enough_at _ _ (sym c.is_short.ensures ∙ ap not c.if-is_short.false) 1 (omega arith)
 
 pub slice_bounds-answer-end-4 : goal.slice_bounds-answer-end-4
 slice_bounds-answer-end-4 c =
     let long = sym c.is_short.ensures ∙ ap not c.if-is_short.false in
     sym (length-take-le 4610 c.args.forms.now (enough_at _ _ long 1 (omega arith)))
 
-pub slice_bounds-answer-end-5 : goal.slice_bounds-answer-end-5
-slice_bounds-answer-end-5 c = enough_at _ _ (sym c.is_short.ensures ∙ ap not c.if-is_short.false) 2 (omega arith)
-
 pub slice_bounds-answer-end-6 : goal.slice_bounds-answer-end-6
 slice_bounds-answer-end-6 c =
     let long = sym c.is_short.ensures ∙ ap not c.if-is_short.false in
     sym (length-take-le 640 c.args.patterns.now (enough_at _ _ long 2 (omega arith)))
-
-pub slice_bounds-answer-end-7 : goal.slice_bounds-answer-end-7
-slice_bounds-answer-end-7 c = enough_at _ _ (sym c.is_short.ensures ∙ ap not c.if-is_short.false) 3 (omega arith)
 
 pub slice_bounds-answer-end-8 : goal.slice_bounds-answer-end-8
 slice_bounds-answer-end-8 c =
     let long = sym c.is_short.ensures ∙ ap not c.if-is_short.false in
     sym (length-take-le 6144 c.args.phrases.now (enough_at _ _ long 3 (omega arith)))
 
-pub slice_bounds-answer-end-9 : goal.slice_bounds-answer-end-9
-slice_bounds-answer-end-9 c = enough_at _ _ (sym c.is_short.ensures ∙ ap not c.if-is_short.false) 4 (omega arith)
-
 pub slice_bounds-answer-end-10 : goal.slice_bounds-answer-end-10
 slice_bounds-answer-end-10 c =
     let long = sym c.is_short.ensures ∙ ap not c.if-is_short.false in
     sym (length-take-le 1088 c.args.base.now (enough_at _ _ long 4 (omega arith)))
 
-pub slice_bounds-answer-end-11 : goal.slice_bounds-answer-end-11
-slice_bounds-answer-end-11 c = enough_at _ _ (sym c.is_short.ensures ∙ ap not c.if-is_short.false) 5 (omega arith)
-
 pub slice_bounds-answer-end-12 : goal.slice_bounds-answer-end-12
 slice_bounds-answer-end-12 c =
     let long = sym c.is_short.ensures ∙ ap not c.if-is_short.false in
     sym (length-take-le 16384 c.args.binds.now (enough_at _ _ long 5 (omega arith)))
-
-pub slice_bounds-answer-end-13 : goal.slice_bounds-answer-end-13
-slice_bounds-answer-end-13 c = enough_at _ _ (sym c.is_short.ensures ∙ ap not c.if-is_short.false) 6 (omega arith)
 
 pub slice_bounds-answer-end-14 : goal.slice_bounds-answer-end-14
 slice_bounds-answer-end-14 c =

@@ -5,5 +5,5 @@ use Rattle.expressions.proofs.closure.Goals as goal
 pub returns-then-kind-eq-METHOD : goal.returns-then-kind-eq-METHOD
 returns-then-kind-eq-METHOD c = search closure_method
 
-pub returns : goal.returns
-returns c = search closure_function
+pub returns-else-kind-eq-METHOD : goal.returns-else-kind-eq-METHOD
+returns-else-kind-eq-METHOD c = search closure_function

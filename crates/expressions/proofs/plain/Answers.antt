@@ -2,35 +2,33 @@
 use Rattle.expressions.proofs.Steps.{proposition, variable_is, constructor, ruled, closure_is, fix_is, fix_asks}
 use Rattle.expressions.proofs.plain.Goals as goal
 
-pub returns-then-kind-eq-PROPOSITION : goal.returns-then-kind-eq-PROPOSITION
-returns-then-kind-eq-PROPOSITION c = λ f q d. proposition _ _ _ _ _ _ _ c.at-kind.ensures c.at-a.ensures c.if-kind-eq-PROPOSITION.true
+pub returns-in-0 : goal.returns-in-0
+returns-in-0 c = λ f q d. proposition _ _ _ _ _ _ _ c.at-kind.ensures c.at-a.ensures c.in-0.is
 
-pub returns-then-kind-eq-VARIABLE : goal.returns-then-kind-eq-VARIABLE
-returns-then-kind-eq-VARIABLE c = λ f q d. variable_is _ _ _ _ _ _ _ _ c.at-kind.ensures c.at-a.ensures c.if-kind-eq-VARIABLE.true c.variable.ensures
+pub returns-in-1 : goal.returns-in-1
+returns-in-1 c = λ f q d. variable_is _ _ _ _ _ _ _ _ c.at-kind.ensures c.at-a.ensures c.in-1.is c.variable.ensures
 
-pub returns-then-kind-eq-CONSTRUCTOR : goal.returns-then-kind-eq-CONSTRUCTOR
-returns-then-kind-eq-CONSTRUCTOR c = λ f q d. constructor _ _ _ _ _ _ _ c.at-kind.ensures c.at-a.ensures c.if-kind-eq-CONSTRUCTOR.true
+pub returns-in-2 : goal.returns-in-2
+returns-in-2 c = λ f q d. constructor _ _ _ _ _ _ _ c.at-kind.ensures c.at-a.ensures c.in-2.is
 
-pub returns-then-kind-eq-RULE : goal.returns-then-kind-eq-RULE
-returns-then-kind-eq-RULE c = λ f q d. ruled _ _ _ _ _ _ _ c.at-kind.ensures c.at-a.ensures c.if-kind-eq-RULE.true
+pub returns-in-3 : goal.returns-in-3
+returns-in-3 c = λ f q d. ruled _ _ _ _ _ _ _ c.at-kind.ensures c.at-a.ensures c.in-3.is
 
 pub fix-requires : goal.fix-requires
 fix-requires c =
     let at1 = c.at-kind in
     let at2 = c.at-a in
-    fix_asks _ _ _ _ _ _ c.requires.ready.2 at1.ensures at2.ensures c.if-kind-eq-FIX.true
+    fix_asks _ _ _ _ _ _ c.requires.ready.2 at1.ensures at2.ensures c.in-8.is
 
-pub returns-then-kind-eq-FIX : goal.returns-then-kind-eq-FIX
-returns-then-kind-eq-FIX c =
+pub returns-in-8 : goal.returns-in-8
+returns-in-8 c =
     let at1 = c.at-kind in
     let at2 = c.at-a in
-    let if5 = c.if-kind-eq-FIX in
     λ f q d.
-    let z = fix_asks _ _ _ _ _ _ c.requires.ready.2 at1.ensures at2.ensures if5.true in
-    fix_is _ _ _ _ _ _ _ _ _ at1.ensures at2.ensures if5.true z.0 c.fix.ensures.0 c.fix.ensures.1
+    let z = fix_asks _ _ _ _ _ _ c.requires.ready.2 at1.ensures at2.ensures c.in-8.is in
+    fix_is _ _ _ _ _ _ _ _ _ at1.ensures at2.ensures c.in-8.is z.0 c.fix.ensures.0 c.fix.ensures.1
 
-pub returns : goal.returns
-returns c =
-    let at1 = c.at-kind in
+pub returns-in_default : goal.returns-in_default
+returns-in_default c =
     λ f q d.
-    closure_is _ _ _ _ _ _ _ at1.ensures c.if-kind-eq-PROPOSITION.false c.if-kind-eq-VARIABLE.false c.if-kind-eq-CONSTRUCTOR.false c.if-kind-eq-RULE.false c.if-kind-eq-FIX.false c.requires.runs_no_other.0 c.requires.runs_no_other.1 c.requires.runs_no_other.2 c.closure.ensures
+    closure_is _ _ _ _ _ _ _ c.at-kind.ensures (search) (search) (search) (search) (search) c.requires.runs_no_other.0 c.requires.runs_no_other.1 c.requires.runs_no_other.2 c.closure.ensures

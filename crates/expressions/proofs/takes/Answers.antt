@@ -5,5 +5,5 @@ use Rattle.expressions.proofs.takes.Goals as goal
 pub returns-then-c-eq-NOT : goal.returns-then-c-eq-NOT
 returns-then-c-eq-NOT c = search takes_one
 
-pub returns : goal.returns
-returns c = search takes_two
+pub returns-else-c-eq-NOT : goal.returns-else-c-eq-NOT
+returns-else-c-eq-NOT c = search takes_two

@@ -3,10 +3,10 @@ use mathlib.Core.Path.{sym, ap}
 use Rattle.omega_c.specs.Answers.{checked}
 use Rattle.omega_c.proofs.waxdapple_check.Goals as goal
 
-pub returns-in-Stands : goal.returns-in-Stands
+pub returns-in-Ok : goal.returns-in-Ok
 unfolding checked
-returns-in-Stands c = record { answer = _; checks = c.check.ensures; values_are = sym (ap checked c.in-Stands.is) }
+returns-in-Ok c = record { answer = _; checks = c.check.ensures; values_are = sym (ap checked c.in-Ok.is) }
 
-pub returns-in-Falls : goal.returns-in-Falls
+pub returns-in-Err : goal.returns-in-Err
 unfolding checked
-returns-in-Falls c = record { answer = _; checks = c.check.ensures; values_are = sym (ap checked c.in-Falls.is) }
+returns-in-Err c = record { answer = _; checks = c.check.ensures; values_are = rw c.number.ensures (sym (ap checked c.in-Err.is)) }

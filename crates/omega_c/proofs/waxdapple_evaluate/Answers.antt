@@ -3,14 +3,10 @@ use mathlib.Core.Path.{sym, ap}
 use Rattle.omega_c.specs.Answers.{evaluated}
 use Rattle.omega_c.proofs.waxdapple_evaluate.Goals as goal
 
-pub returns-in-Accepted : goal.returns-in-Accepted
+pub returns-in-Ok : goal.returns-in-Ok
 unfolding evaluated
-returns-in-Accepted c =
-    let evaluate = c.evaluate in
-    record { answer = _; evaluates = evaluate.ensures; values_are = sym (ap evaluated c.in-Accepted.is) }
+returns-in-Ok c = record { answer = _; evaluates = c.evaluate.ensures; values_are = sym (ap evaluated c.in-Ok.is) }
 
-pub returns-in-Refused : goal.returns-in-Refused
+pub returns-in-Err : goal.returns-in-Err
 unfolding evaluated
-returns-in-Refused c =
-    let evaluate = c.evaluate in
-    record { answer = _; evaluates = evaluate.ensures; values_are = sym (ap evaluated c.in-Refused.is) }
+returns-in-Err c = record { answer = _; evaluates = c.evaluate.ensures; values_are = rw c.number.ensures (sym (ap evaluated c.in-Err.is)) }

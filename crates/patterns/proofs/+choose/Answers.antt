@@ -13,13 +13,13 @@ pub choose-requires : goal.choose-requires
 choose-requires t c =
     (omega (arith, c.requires, c.if-left-eq0.false), others _ _ _ _ _ _ c.if-left-eq0.false c.requires)
 
-pub returns-in-Fits : goal.returns-in-Fits
-returns-in-Fits t c =
+pub returns-in-Some : goal.returns-in-Some
+returns-in-Some t c =
     let if1 = c.if-left-eq0 in
     let at1 = c.at-q in
-    first_fits _ _ _ _ _ _ _ _ _ if1.false at1.ensures c.at.ensures (rw (c.nothing.ensures, c.in-Fits.is) at c.tried.ensures)
+    first_fits _ _ _ _ _ _ _ _ _ if1.false at1.ensures c.at.ensures (rw (c.nothing.ensures, c.in-Some.is) at c.tried.ensures)
 
-pub returns-in-Misses : goal.returns-in-Misses
-returns-in-Misses t c =
+pub returns-in-None : goal.returns-in-None
+returns-in-None t c =
     let if1 = c.if-left-eq0 in
-    first_misses _ _ _ _ _ _ _ _ if1.false c.at-q.ensures (rw (c.nothing.ensures, c.in-Misses.is) at c.tried.ensures) c.choose.ensures
+    first_misses _ _ _ _ _ _ _ _ if1.false c.at-q.ensures (rw (c.nothing.ensures, c.in-None.is) at c.tried.ensures) c.choose.ensures

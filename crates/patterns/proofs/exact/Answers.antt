@@ -7,6 +7,6 @@ pub returns-then-q-p : goal.returns-then-q-p
 unfolding same_number
 returns-then-q-p c = rw (eq-eqb _ _ c.if-q-p.true)
 
-pub returns : goal.returns
+pub returns-else-q-p : goal.returns-else-q-p
 unfolding same_number
-returns c = rw (ne_eqb _ _ c.if-q-p.false)
+returns-else-q-p c = rw (ne_eqb _ _ c.if-q-p.false)

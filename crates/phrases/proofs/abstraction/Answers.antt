@@ -1,33 +1,35 @@
 -- The reference is an earlier phrase's, and the tests say its kind.
+use mathlib.Core.Path.{sym}
 use native.Mathlib.Omega.{arith}
 use borrow.Author.Tests.{eq-eqb, ne_eqb}
 use Rattle.language.specs.Numbers.{then, check}
+use Rattle.std.proofs.lemmas.Result.{err_from_is_err_and}
 use Rattle.numbers.proofs.Bounds.{below_got}
 use Rattle.records.specs.Reading.{row_ref}
 use Rattle.phrases.specs.Shapes.{abstraction_row}
-use Rattle.records.proofs.References.{gotten_got, gotten_no}
 use Rattle.records.proofs.Tables.{rows_long}
 use Rattle.phrases.proofs.abstraction.Goals as goal
+use Rattle.phrases.proofs.abstraction.Goals.{then-kind-eq-FUNCTION-via-then-kind-eq-FUNCTION, then-kind-eq-FUNCTION-via-else-kind-eq-FUNCTION+then-kind-eq-METHOD}
+
+pub returns-in_err-k : goal.returns-in_err-k
+unfolding abstraction_row row_ref then check
+returns-in_err-k c =
+    let e = err_from_is_err_and c.from_residual.result c.from_residual.ensures.1 in
+    rw (e.1, e.2) (rw (rows_long, ← c.in_err-k.ensures))
 
 pub kind_of-kind-requires : goal.kind_of-kind-requires
-kind_of-kind-requires c = ((below_got _ _ _ _ _ (gotten_got _ _ _ c.in-Got.is c.read_below.ensures)).low, omega arith)
+kind_of-kind-requires c = ((below_got _ _ _ _ _ (sym c.in_ok-k.ensures)).low, omega arith)
 
 pub returns-then-kind-eq-FUNCTION : goal.returns-then-kind-eq-FUNCTION
 unfolding abstraction_row row_ref then check
-returns-then-kind-eq-FUNCTION c = rw (rows_long, gotten_got _ _ _ c.in-Got.is c.read_below.ensures, ← c.kind_of-kind.ensures, eq-eqb _ _ c.if-kind-eq-FUNCTION.true)
+returns-then-kind-eq-FUNCTION c =
+    let read = c.in_ok-k.ensures in
+    let kind = c.kind_of-kind.ensures in
+    elim c.then-kind-eq-FUNCTION.branch [
+      | then-kind-eq-FUNCTION-via-then-kind-eq-FUNCTION w ↦ rw (rows_long, ← read, ← kind, eq-eqb _ _ w.if-kind-eq-FUNCTION.true)
+      | then-kind-eq-FUNCTION-via-else-kind-eq-FUNCTION+then-kind-eq-METHOD w ↦ rw (rows_long, ← read, ← kind, ne_eqb _ _ w.if-kind-eq-FUNCTION.false, eq-eqb _ _ w.if-kind-eq-METHOD.true)
+    ]
 
-pub returns-then-kind-eq-METHOD : goal.returns-then-kind-eq-METHOD
+pub returns : goal.returns
 unfolding abstraction_row row_ref then check
-returns-then-kind-eq-METHOD c =
-    let read_below = c.read_below in
-    rw (rows_long, gotten_got _ _ _ c.in-Got.is read_below.ensures, ← c.kind_of-kind.ensures, ne_eqb _ _ c.if-kind-eq-FUNCTION.false, eq-eqb _ _ c.if-kind-eq-METHOD.true)
-
-pub returns-in-Refused : goal.returns-in-Refused
-unfolding abstraction_row row_ref then check
-returns-in-Refused c = rw (rows_long, gotten_no _ _ _ c.in-Refused.is c.read_below.ensures)
-
-pub returns-else-kind-eq-METHOD : goal.returns-else-kind-eq-METHOD
-unfolding abstraction_row row_ref then check
-returns-else-kind-eq-METHOD c =
-    let read_below = c.read_below in
-    rw (rows_long, gotten_got _ _ _ c.in-Got.is read_below.ensures, ← c.kind_of-kind.ensures, ne_eqb _ _ c.if-kind-eq-FUNCTION.false, ne_eqb _ _ c.if-kind-eq-METHOD.false)
+returns c = rw (rows_long, ← c.in_ok-k.ensures, ← c.kind_of-kind.ensures, ne_eqb _ _ c.if-kind-eq-FUNCTION.false, ne_eqb _ _ c.if-kind-eq-METHOD.false)

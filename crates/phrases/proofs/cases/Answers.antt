@@ -1,22 +1,19 @@
 -- The kind and the phrase begin the row; the clauses follow.
+use mathlib.Core.Path.{sym}
 use Rattle.language.specs.Numbers.{then}
-use Rattle.records.proofs.References.{gotten_got, gotten_no}
+use Rattle.std.proofs.lemmas.Result.{err_from_is_err_and}
 use Rattle.phrases.proofs.OperandRuns.{operand_fits, two_taken}
 use Rattle.phrases.proofs.cases.Goals as goal
 
-pub put-requires-in-Got : goal.put-requires-in-Got
-put-requires-in-Got c =
-    let operand = c.operand in
-    operand_fits _ _ _ c.requires.patterns_bound.1 _ _ _ _ (gotten_got _ _ _ c.in-Got.is operand.ensures)
-
-pub returns-in-Refused : goal.returns-in-Refused
+pub returns-in_err-e : goal.returns-in_err-e
 unfolding then
-returns-in-Refused c = rw (gotten_no _ _ _ c.in-Refused.is c.operand.ensures)
+returns-in_err-e c =
+    let e = err_from_is_err_and c.from_residual.result c.from_residual.ensures.1 in
+    rw (e.1, e.2) (rw (← c.in_err-e.ensures))
 
-pub returns-in-Got : goal.returns-in-Got
+pub put-requires-2 : goal.put-requires-2
+put-requires-2 c = operand_fits _ _ _ c.requires.patterns_bound.1 _ _ _ _ (sym c.in_ok-e.ensures)
+
+pub returns : goal.returns
 unfolding then
-returns-in-Got c =
-    let operand = c.operand in
-    let put = c.put in
-    let put2 = c.put-in-Got in
-    rw (gotten_got _ _ _ c.in-Got.is operand.ensures, ← two_taken _ _ _ c.requires.row_value put.ensures _ _ put2.ensures) c.clauses.ensures
+returns c = rw (← c.in_ok-e.ensures, ← two_taken _ _ _ c.requires.row_value c.put.ensures _ _ c.put-2.ensures) c.clauses.ensures

@@ -1,23 +1,21 @@
 -- A refusal is handed on; else the two numbers are stored in a row of zeros.
+use mathlib.Core.Path.{sym}
 use Rattle.language.specs.Numbers.{then}
+use Rattle.std.proofs.lemmas.Result.{err_from_is_err_and}
 use Rattle.records.specs.Rows.{phrase_cells}
 use Rattle.records.specs.Reading.{one_row}
-use Rattle.records.proofs.References.{gotten_got, gotten_no}
 use Rattle.phrases.proofs.OperandRuns.{operand_fits}
 use Rattle.phrases.proofs.one.Goals as goal
 
-pub put-requires-in-Got : goal.put-requires-in-Got
-put-requires-in-Got c =
-    let operand = c.operand in
-    operand_fits _ _ _ c.requires.n_bound.0 _ _ _ _ (gotten_got _ _ _ c.in-Got.is operand.ensures)
-
-pub returns-in-Refused : goal.returns-in-Refused
+pub returns-in_err-x : goal.returns-in_err-x
 unfolding one_row then
-returns-in-Refused c = rw (gotten_no _ _ _ c.in-Refused.is c.operand.ensures)
+returns-in_err-x c =
+    let e = err_from_is_err_and c.from_residual.result c.from_residual.ensures.1 in
+    rw (e.1, e.2) (rw (← c.in_err-x.ensures))
 
-pub returns-in-Got : goal.returns-in-Got
+pub put-requires-2 : goal.put-requires-2
+put-requires-2 c = operand_fits _ _ _ c.requires.n_bound.0 _ _ _ _ (sym c.in_ok-x.ensures)
+
+pub returns : goal.returns
 unfolding one_row then phrase_cells
-returns-in-Got c =
-    let operand = c.operand in
-    let put = c.put in
-    rw (gotten_got _ _ _ c.in-Got.is operand.ensures, c.put-in-Got.ensures, put.ensures, c.requires.row_value)
+returns c = rw (← c.in_ok-x.ensures, c.put-2.ensures, c.put.ensures, c.requires.row_value)

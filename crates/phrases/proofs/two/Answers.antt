@@ -1,36 +1,30 @@
 -- A refusal is handed on; else the three numbers are stored in a row of zeros.
+use mathlib.Core.Path.{sym}
 use Rattle.language.specs.Numbers.{then}
+use Rattle.std.proofs.lemmas.Result.{err_from_is_err_and}
 use Rattle.records.specs.Rows.{phrase_cells}
 use Rattle.records.specs.Reading.{pair_row}
-use Rattle.records.proofs.References.{gotten_got, gotten_no}
 use Rattle.phrases.proofs.OperandRuns.{operand_fits}
 use Rattle.phrases.proofs.two.Goals as goal
 
-pub put-requires-in-Got-operand : goal.put-requires-in-Got-operand
-put-requires-in-Got-operand c =
-    let operand = c.operand in
-    operand_fits _ _ _ c.requires.n_bound.0 _ _ _ _ (gotten_got _ _ _ c.in-Got.is operand.ensures)
-
-pub put-requires-in-Got-operand-2 : goal.put-requires-in-Got-operand-2
-put-requires-in-Got-operand-2 c =
-    let operand2 = c.operand-in-Got in
-    operand_fits _ _ _ c.requires.n_bound.0 _ _ _ _ (gotten_got _ _ _ c.in-Got-operand.is operand2.ensures)
-
-pub returns-in-Refused : goal.returns-in-Refused
+pub returns-in_err-x : goal.returns-in_err-x
 unfolding pair_row then
-returns-in-Refused c = rw (gotten_no _ _ _ c.in-Refused.is c.operand.ensures)
+returns-in_err-x c =
+    let e = err_from_is_err_and c.from_residual.result c.from_residual.ensures.1 in
+    rw (e.1, e.2) (rw (← c.in_err-x.ensures))
 
-pub returns-in-Refused-operand : goal.returns-in-Refused-operand
+pub returns-in_err-y : goal.returns-in_err-y
 unfolding pair_row then
-returns-in-Refused-operand c =
-    let operand = c.operand in
-    rw (gotten_got _ _ _ c.in-Got.is operand.ensures, gotten_no _ _ _ c.in-Refused-operand.is c.operand-in-Got.ensures)
+returns-in_err-y c =
+    let e = err_from_is_err_and c.from_residual-in_err-y.result c.from_residual-in_err-y.ensures.1 in
+    rw (e.1, e.2) (rw (← c.in_ok-x.ensures, ← c.in_err-y.ensures))
 
-pub returns-in-Got-operand : goal.returns-in-Got-operand
+pub put-requires-2 : goal.put-requires-2
+put-requires-2 c = operand_fits _ _ _ c.requires.n_bound.0 _ _ _ _ (sym c.in_ok-x.ensures)
+
+pub put-requires-3 : goal.put-requires-3
+put-requires-3 c = operand_fits _ _ _ c.requires.n_bound.0 _ _ _ _ (sym c.in_ok-y.ensures)
+
+pub returns : goal.returns
 unfolding pair_row then phrase_cells
-returns-in-Got-operand c =
-    let operand = c.operand in
-    let operand2 = c.operand-in-Got in
-    let put = c.put in
-    let put2 = c.put-in-Got-operand in
-    rw (gotten_got _ _ _ c.in-Got.is operand.ensures, gotten_got _ _ _ c.in-Got-operand.is operand2.ensures, c.put-in-Got-operand-2.ensures, put2.ensures, put.ensures, c.requires.row_value)
+returns c = rw (← c.in_ok-x.ensures, ← c.in_ok-y.ensures, c.put-3.ensures, c.put-2.ensures, c.put.ensures, c.requires.row_value)

@@ -6,7 +6,6 @@ use Rattle.replay.proofs.answer_phrase.Goals as goal
 pub evaluate-requires : goal.evaluate-requires
 evaluate-requires g c =
     let read_sheet = c.read_sheet in
-    let if1 = c.if-k-c in
     let kept = read_sheet.auto in
     let forms = c.requires.1 in
     let patterns = c.requires.2 in
@@ -15,5 +14,6 @@ evaluate-requires g c =
     let patterns-kept = kept.patterns in
     let phrases-kept = kept.phrases in
     let first = c.at.ensures in
-    let low = c.if-at-lt-METHOD_CALL.true in
-    phrase_ready _ _ _ _ _ _ _ _ _ _ _ _ _ _ read_sheet.ensures c.in-Read.is (omega arith) patterns-kept (omega arith) phrases-kept (omega arith) c.requires.5 _ if1.true (omega arith)
+    let inside = c.if-c-k.false in
+    let low = c.if-at-ge-METHOD_CALL.false in
+    phrase_ready _ _ _ _ _ _ _ _ _ _ _ _ _ _ read_sheet.ensures c.in-Ok.is (omega arith) patterns-kept (omega arith) phrases-kept (omega arith) c.requires.5 _ (omega arith) (omega arith)

@@ -7,12 +7,12 @@ use Rattle.replay.proofs.is_certificate.Goals as goal
 
 pub slice_bounds-certificate-end : goal.slice_bounds-certificate-end
 slice_bounds-certificate-end g c =
-    let fits = bytes_fit _ _ _ _ _ _ c.read_hex.ensures c.in-Bytes.is in
+    let fits = bytes_fit _ _ _ _ _ _ c.read_hex.ensures c.in-Some.is in
     let kept = c.read_hex.auto.out in
     omega arith
 
 pub slice_bounds-answer_check-end : goal.slice_bounds-answer_check-end
 slice_bounds-answer_check-end g c =
-    let fits = bytes_fit _ _ _ _ _ _ c.read_hex.ensures c.in-Bytes.is in
+    let fits = bytes_fit _ _ _ _ _ _ c.read_hex.ensures c.in-Some.is in
     let kept = c.read_hex.auto.out in
     sym (length-take-le _ _ (omega arith))

@@ -7,12 +7,12 @@ use Rattle.replay.proofs.is_evaluated.Goals as goal
 
 pub slice_bounds-sheet-end : goal.slice_bounds-sheet-end
 slice_bounds-sheet-end g c =
-    let fits = bytes_fit _ _ _ _ _ _ c.read_hex.ensures c.in-Bytes.is in
+    let fits = bytes_fit _ _ _ _ _ _ c.read_hex.ensures c.in-Some.is in
     let kept = c.read_hex.auto.out in
     omega arith
 
 pub slice_bounds-answer_evaluation-end : goal.slice_bounds-answer_evaluation-end
 slice_bounds-answer_evaluation-end g c =
-    let fits = bytes_fit _ _ _ _ _ _ c.read_hex.ensures c.in-Bytes.is in
+    let fits = bytes_fit _ _ _ _ _ _ c.read_hex.ensures c.in-Some.is in
     let kept = c.read_hex.auto.out in
     sym (length-take-le _ _ (omega arith))

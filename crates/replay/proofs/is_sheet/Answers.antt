@@ -7,12 +7,12 @@ use Rattle.replay.proofs.is_sheet.Goals as goal
 
 pub slice_bounds-bytes-end : goal.slice_bounds-bytes-end
 slice_bounds-bytes-end g c =
-    let fits = bytes_fit _ _ _ _ _ _ c.read_hex.ensures c.in-Bytes.is in
+    let fits = bytes_fit _ _ _ _ _ _ c.read_hex.ensures c.in-Some.is in
     let kept = c.read_hex.auto.out in
     omega arith
 
 pub slice_bounds-answer_either-end : goal.slice_bounds-answer_either-end
 slice_bounds-answer_either-end g c =
-    let fits = bytes_fit _ _ _ _ _ _ c.read_hex.ensures c.in-Bytes.is in
+    let fits = bytes_fit _ _ _ _ _ _ c.read_hex.ensures c.in-Some.is in
     let kept = c.read_hex.auto.out in
     sym (length-take-le _ _ (omega arith))

@@ -1,10 +1,7 @@
--- `requests::digits` meets its contract: at each turn the answer from the start is the answer from here.
-use Prim.Native.Nat.{◌-◌}
-use Rattle.requests.proofs.Counting.{At}
+-- What is counted from the start is what is counted from here.
+use Rattle.std.proofs.Common.{◌≡◌, ◌-◌}
+use Rattle.requests.specs.Decimals.{counted}
 use Rattle.requests.proofs.digits.Given as goal
 
 abbrev pub invariant-loop-i : goal.invariant-loop-i
-invariant-loop-i l = At l.line l.from l.to l.i l.v
-
-abbrev pub decreases-loop-i : goal.decreases-loop-i
-decreases-loop-i l = l.to - l.i
+invariant-loop-i l = counted l.line (l.to - l.from) l.from 0 ≡ counted l.line (l.to - l.i) l.i l.v

@@ -1,11 +1,7 @@
--- `requests::field_end` meets its contract: at each turn no blank stood before, so the search from the start is the search from here.
-use Prim.Native.Nat.{◌-◌}
-use lib.ListN.{length}
-use Rattle.requests.proofs.Spans.{Passed}
+-- No blank stood before.
+use Rattle.std.proofs.Common.{◌≡◌, ◌+◌, drop}
+use Rattle.requests.specs.Fields.{span}
 use Rattle.requests.proofs.field_end.Given as goal
 
 abbrev pub invariant-loop-i : goal.invariant-loop-i
-invariant-loop-i l = Passed l.line l.from l.i
-
-abbrev pub decreases-loop-i : goal.decreases-loop-i
-decreases-loop-i l = length l.line - l.i
+invariant-loop-i l = l.from + span (drop l.from l.line) ≡ l.i + span (drop l.i l.line)

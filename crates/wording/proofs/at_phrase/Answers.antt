@@ -1,5 +1,4 @@
 -- `at_phrase` meets its contract, by what its callees ensure.
-use Rattle.wording.specs.Page.{pick}
 use Rattle.wording.specs.Text.{text, up_to, after, piece}
 use Rattle.wording.specs.Tables.{kinds}
 use Rattle.wording.specs.Answers.{phrase_text}
@@ -7,7 +6,7 @@ use Rattle.wording.proofs.Answering.{three}
 use Rattle.wording.proofs.at_phrase.Goals as goal
 
 pub returns : goal.returns
-unfolding phrase_text kinds text up_to after piece pick
+unfolding phrase_text kinds text up_to after piece
 returns c =
     let facts-of = c.facts_of-facts in
     let fill = c.fill-said in

@@ -1,14 +1,12 @@
 -- `here` meets its contract, by what its callees ensure.
-use Rattle.wording.specs.Page.{pick}
 use Rattle.wording.specs.Text.{text, up_to, after, piece}
 use Rattle.wording.specs.Answers.{here_text}
 use Rattle.wording.proofs.Answering.{three}
 use Rattle.wording.proofs.here.Goals as goal
 
 pub returns : goal.returns
-unfolding here_text text up_to after piece pick
+unfolding here_text text up_to after piece
 returns c =
-    let wide = c.wide in
     let fill = c.fill-marked in
     let bytes = c.bytes-after in
-    rw (← wide.ensures.0) (three _ _ _ _ _ _ _ fill.ensures bytes.ensures c.dots.ensures)
+    rw (← c.from.ensures) (three _ _ _ _ _ _ _ fill.ensures bytes.ensures c.dots.ensures)

@@ -1,14 +1,16 @@
 -- The number is read, and the bytes end with it or go on.
-use mathlib.Core.Path.{sym, ap, ◌∙◌}
-use Rattle.numbers.specs.Gotten.{gotten}
+use mathlib.Core.Path.{sym}
+use Rattle.std.proofs.lemmas.Result.{err_from_is_err_and}
 use Rattle.checker.proofs.Statements.{conclusion_refused, conclusion_read, conclusion_goes_on}
 use Rattle.checker.proofs.reading.read_conclusion.Goals as goal
 
+pub returns-in_err-conclusion : goal.returns-in_err-conclusion
+returns-in_err-conclusion c =
+    let e = err_from_is_err_and c.from_residual.result c.from_residual.ensures.1 in
+    rw (e.1, e.2) (conclusion_refused _ _ _ _ _ _ (sym c.in_err-conclusion.ensures))
+
 pub returns-then-end-s : goal.returns-then-end-s
-returns-then-end-s c = conclusion_read _ _ _ _ _ _ (sym c.read_below.ensures ∙ ap gotten c.in-Got.is) c.if-end-s.true
+returns-then-end-s c = conclusion_read _ _ _ _ _ _ (sym c.in_ok-conclusion.ensures) c.if-end-s.true
 
-pub returns-in-Refused : goal.returns-in-Refused
-returns-in-Refused c = conclusion_refused _ _ _ _ _ _ (sym c.read_below.ensures ∙ ap gotten c.in-Refused.is)
-
-pub returns-else-end-s : goal.returns-else-end-s
-returns-else-end-s c = conclusion_goes_on _ _ _ _ _ _ (sym c.read_below.ensures ∙ ap gotten c.in-Got.is) c.if-end-s.false
+pub returns : goal.returns
+returns c = conclusion_goes_on _ _ _ _ _ _ (sym c.in_ok-conclusion.ensures) c.if-end-s.false

@@ -1,5 +1,4 @@
 -- The rows from the start are those laid, and the rest from here.
-use Prim.Native.Nat.{◌-◌}
 use lib.ListN.{take}
 use Rattle.records.specs.Reading.{pattern_row}
 use Rattle.reader.proofs.Filling.{At}
@@ -7,6 +6,3 @@ use Rattle.reader.proofs.parts.pattern_rows.Given as goal
 
 abbrev pub invariant-loop-i : goal.invariant-loop-i
 invariant-loop-i l = At 5 128 (pattern_row l.s (take l.props l.names)) l.count l.at l.initial.patterns l.patterns l.i l.p
-
-abbrev pub decreases-loop-i : goal.decreases-loop-i
-decreases-loop-i l = l.count - l.i

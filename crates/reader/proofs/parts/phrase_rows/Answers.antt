@@ -6,17 +6,11 @@ use Rattle.reader.proofs.parts.phrase_rows.Goals as goal
 pub loop-i-init : goal.loop-i-init
 loop-i-init c = at_start _ _ _ _ _ _
 
-pub returns-in-Refused : goal.returns-in-Refused
-returns-in-Refused c =
-    let loop = c.loop-i in
-    let loop-test = c.loop-i-test in
-    at_refused _ _ _ _ _ _ _ _ _ loop.invariant _ _ loop-test.true c.read_phrase.ensures _ _ c.requires.2 c.in-Refused.is
-
 pub loop-i-preserved : goal.loop-i-preserved
-loop-i-preserved c =
-    let loop = c.loop-i in
-    let loop-test = c.loop-i-test in
-    at_more _ _ _ _ _ _ _ _ _ loop.invariant _ _ loop-test.true c.read_phrase.ensures _ (search rules) c.in-At.is
+loop-i-preserved c = at_more _ _ _ _ _ _ _ _ _ c.loop-i.invariant _ _ c.loop-i-test.true c.read_phrase.ensures _ (search rules) c.in-Ok.is
+
+pub returns-in-Err : goal.returns-in-Err
+returns-in-Err c = at_refused _ _ _ _ _ _ _ _ _ c.loop-i.invariant _ _ c.loop-i-test.true c.read_phrase.ensures _ c.requires.2 c.in-Err.is
 
 pub returns : goal.returns
 returns c = at_end _ _ _ _ _ _ _ _ _ c.loop-i.invariant c.requires.2 c.loop-i-test.false

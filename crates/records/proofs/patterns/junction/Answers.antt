@@ -1,52 +1,45 @@
 -- A refusal is handed on; the counts are the sums of those of the two patterns that it is over, with one part more.
+use mathlib.Core.Path.{sym}
 use native.Mathlib.Omega.{arith}
 use Rattle.language.specs.Numbers.{then}
+use Rattle.std.proofs.lemmas.Result.{err_from_is_err_and}
 use Rattle.numbers.proofs.Bounds.{below_got}
 use Rattle.records.specs.Operands.{junction_row}
-use Rattle.records.proofs.References.{gotten_got, gotten_no}
 use Rattle.records.proofs.Tables.{rows_long}
 use Rattle.records.proofs.patterns.junction.Goals as goal
 
+pub returns-in_err-left : goal.returns-in_err-left
+unfolding junction_row then
+returns-in_err-left c =
+    let e = err_from_is_err_and c.from_residual.result c.from_residual.ensures.1 in
+    rw (e.1, e.2) (rw (rows_long, ← c.in_err-left.ensures))
+
+pub returns-in_err-right : goal.returns-in_err-right
+unfolding junction_row then
+returns-in_err-right c =
+    let e = err_from_is_err_and c.from_residual-in_err-right.result c.from_residual-in_err-right.ensures.1 in
+    rw (e.1, e.2) (rw (rows_long, ← c.in_ok-left.ensures, ← c.in_err-right.ensures))
+
 pub cell-requires : goal.cell-requires
-cell-requires c =
-    let read_below = c.read_below in
-    ((below_got _ _ _ _ _ (gotten_got _ _ _ c.in-Got.is read_below.ensures)).low, c.requires.n_bound.0, omega arith)
+cell-requires c = ((below_got _ _ _ _ _ (sym c.in_ok-left.ensures)).low, c.requires.n_bound.0, omega arith)
 
-pub cell-requires-in-Got-read_below : goal.cell-requires-in-Got-read_below
-cell-requires-in-Got-read_below c =
-    ((below_got _ _ _ _ _ (gotten_got _ _ _ c.in-Got-read_below.is c.read_below-in-Got.ensures)).low, c.requires.n_bound.0, omega arith)
+pub cell-requires-2 : goal.cell-requires-2
+cell-requires-2 c = ((below_got _ _ _ _ _ (sym c.in_ok-right.ensures)).low, c.requires.n_bound.0, omega arith)
 
-pub cell-requires-in-Got-read_below-2 : goal.cell-requires-in-Got-read_below-2
-cell-requires-in-Got-read_below-2 c =
-    let read_below = c.read_below in
-    ((below_got _ _ _ _ _ (gotten_got _ _ _ c.in-Got.is read_below.ensures)).low, c.requires.n_bound.0, omega arith)
+pub cell-requires-3 : goal.cell-requires-3
+cell-requires-3 c = ((below_got _ _ _ _ _ (sym c.in_ok-left.ensures)).low, c.requires.n_bound.0, omega arith)
 
-pub cell-requires-in-Got-read_below-3 : goal.cell-requires-in-Got-read_below-3
-cell-requires-in-Got-read_below-3 c =
-    let read-below2 = c.read_below-in-Got in
-    ((below_got _ _ _ _ _ (gotten_got _ _ _ c.in-Got-read_below.is read-below2.ensures)).low, c.requires.n_bound.0, omega arith)
+pub cell-requires-4 : goal.cell-requires-4
+cell-requires-4 c = ((below_got _ _ _ _ _ (sym c.in_ok-right.ensures)).low, c.requires.n_bound.0, omega arith)
 
 pub small-requires : goal.small-requires
 small-requires c =
-    let read_below = c.read_below in
-    let read-below2 = c.read_below-in-Got in
-    let h = (below_got _ _ _ _ _ (gotten_got _ _ _ c.in-Got.is read_below.ensures)).low in let g = (below_got _ _ _ _ _ (gotten_got _ _ _ c.in-Got-read_below.is read-below2.ensures)).low in let l = c.requires.n_bound in record { row_value = c.requires.row_value; kind_bound = (omega arith, omega arith, omega arith) }
+    let h = (below_got _ _ _ _ _ (sym c.in_ok-left.ensures)).low in
+    let g = (below_got _ _ _ _ _ (sym c.in_ok-right.ensures)).low in
+    let l = c.requires.n_bound in
+    record { row_value = c.requires.row_value; kind_bound = (omega arith, omega arith, omega arith) }
 
-pub returns-in-Refused : goal.returns-in-Refused
+pub returns : goal.returns
 unfolding junction_row then
-returns-in-Refused c = rw (rows_long, gotten_no _ _ _ c.in-Refused.is c.read_below.ensures)
-
-pub returns-in-Refused-read_below : goal.returns-in-Refused-read_below
-unfolding junction_row then
-returns-in-Refused-read_below c =
-    let read_below = c.read_below in
-    rw (rows_long, gotten_got _ _ _ c.in-Got.is read_below.ensures, gotten_no _ _ _ c.in-Refused-read_below.is c.read_below-in-Got.ensures)
-
-pub returns-in-Got-read_below : goal.returns-in-Got-read_below
-unfolding junction_row then
-returns-in-Got-read_below c =
-    let read_below = c.read_below in
-    let read-below2 = c.read_below-in-Got in
-    let cell = c.cell in
-    let cell2 = c.cell-in-Got-read_below in
-    rw (rows_long, gotten_got _ _ _ c.in-Got.is read_below.ensures, gotten_got _ _ _ c.in-Got-read_below.is read-below2.ensures, ← cell.ensures.0, ← cell2.ensures.0, ← c.cell-in-Got-read_below-2.ensures.0, ← c.cell-in-Got-read_below-3.ensures.0) c.small.ensures
+returns c =
+    rw (rows_long, ← c.in_ok-left.ensures, ← c.in_ok-right.ensures, ← c.cell.ensures.0, ← c.cell-2.ensures.0, ← c.cell-3.ensures.0, ← c.cell-4.ensures.0) c.small.ensures

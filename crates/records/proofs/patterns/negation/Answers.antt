@@ -1,29 +1,31 @@
 -- A refusal is handed on; the counts are those of the pattern that it is over, with one part more.
+use mathlib.Core.Path.{sym}
 use native.Mathlib.Omega.{arith}
 use Rattle.language.specs.Numbers.{then}
+use Rattle.std.proofs.lemmas.Result.{err_from_is_err_and}
 use Rattle.numbers.proofs.Bounds.{below_got}
 use Rattle.records.specs.Operands.{negation_row}
-use Rattle.records.proofs.References.{gotten_got, gotten_no}
 use Rattle.records.proofs.Tables.{rows_long}
 use Rattle.records.proofs.patterns.negation.Goals as goal
 
-pub cell-binds-requires : goal.cell-binds-requires
-cell-binds-requires c = ((below_got _ _ _ _ _ (gotten_got _ _ _ c.in-Got.is c.read_below.ensures)).low, c.requires.n_bound, omega arith)
+pub returns-in_err-left : goal.returns-in_err-left
+unfolding negation_row then
+returns-in_err-left c =
+    let e = err_from_is_err_and c.from_residual.result c.from_residual.ensures.1 in
+    rw (e.1, e.2) (rw (rows_long, ← c.in_err-left.ensures))
 
-pub cell-parts-requires : goal.cell-parts-requires
-cell-parts-requires c = ((below_got _ _ _ _ _ (gotten_got _ _ _ c.in-Got.is c.read_below.ensures)).low, c.requires.n_bound, omega arith)
+pub cell-requires : goal.cell-requires
+cell-requires c = ((below_got _ _ _ _ _ (sym c.in_ok-left.ensures)).low, c.requires.n_bound, omega arith)
+
+pub cell-requires-2 : goal.cell-requires-2
+cell-requires-2 c = ((below_got _ _ _ _ _ (sym c.in_ok-left.ensures)).low, c.requires.n_bound, omega arith)
 
 pub small-requires : goal.small-requires
 small-requires c =
-    let read_below = c.read_below in
-    let h = (below_got _ _ _ _ _ (gotten_got _ _ _ c.in-Got.is read_below.ensures)).low in let l = c.requires.n_bound in record { row_value = c.requires.row_value; kind_bound = (omega arith, omega arith, omega arith) }
+    let h = (below_got _ _ _ _ _ (sym c.in_ok-left.ensures)).low in
+    let l = c.requires.n_bound in
+    record { row_value = c.requires.row_value; kind_bound = (omega arith, omega arith, omega arith) }
 
-pub returns-in-Refused : goal.returns-in-Refused
+pub returns : goal.returns
 unfolding negation_row then
-returns-in-Refused c = rw (rows_long, gotten_no _ _ _ c.in-Refused.is c.read_below.ensures)
-
-pub returns-in-Got : goal.returns-in-Got
-unfolding negation_row then
-returns-in-Got c =
-    let read_below = c.read_below in
-    rw (rows_long, gotten_got _ _ _ c.in-Got.is read_below.ensures, ← c.cell-binds.ensures.0, ← c.cell-parts.ensures.0) c.small.ensures
+returns c = rw (rows_long, ← c.in_ok-left.ensures, ← c.cell.ensures.0, ← c.cell-2.ensures.0) c.small.ensures

@@ -1,13 +1,15 @@
 -- The kind that was read picks the reader of the rest.
 use Rattle.language.specs.Numbers.{then, record_at}
+use Rattle.std.proofs.lemmas.Result.{err_from_is_err_and}
 use Rattle.records.specs.Reading.{pattern_row}
-use Rattle.records.proofs.References.{gotten_got, gotten_no}
 use Rattle.records.proofs.patterns.pattern_row.Goals as goal
 
-pub returns-in-Refused : goal.returns-in-Refused
+pub returns-in_err-k : goal.returns-in_err-k
 unfolding pattern_row record_at then
-returns-in-Refused c = rw (gotten_no _ _ _ c.in-Refused.is c.read.ensures)
+returns-in_err-k c =
+    let e = err_from_is_err_and c.from_residual.result c.from_residual.ensures.1 in
+    rw (e.1, e.2) (rw (← c.in_err-k.ensures))
 
-pub returns-in-Got : goal.returns-in-Got
+pub returns : goal.returns
 unfolding pattern_row record_at then
-returns-in-Got c = rw (gotten_got _ _ _ c.in-Got.is c.read.ensures) c.pattern_of.ensures
+returns c = rw (← c.in_ok-k.ensures) c.pattern_of.ensures

@@ -1,17 +1,21 @@
 -- A refusal is handed on; the operand's number fits its bits.
+use mathlib.Core.Path.{sym}
 use native.Mathlib.Omega.{arith}
 use Rattle.language.specs.Numbers.{then}
+use Rattle.std.proofs.lemmas.Result.{err_from_is_err_and}
 use Rattle.records.specs.Operands.{negation_word}
-use Rattle.records.proofs.References.{gotten_got, gotten_no, name_low}
+use Rattle.records.proofs.References.{name_low}
 use Rattle.records.proofs.props.negation.Goals as goal
 
+pub returns-in_err-p : goal.returns-in_err-p
+unfolding negation_word then
+returns-in_err-p c =
+    let e = err_from_is_err_and c.from_residual.result c.from_residual.ensures.1 in
+    rw (e.1, e.2) (rw (← c.in_err-p.ensures.0), tt)
+
 pub word-requires : goal.word-requires
-word-requires c = let h = name_low _ _ _ _ _ c.requires.low (gotten_got _ _ _ c.in-Got.is c.name_ref.ensures.0) in (omega arith, h, omega arith)
+word-requires c = let h = name_low _ _ _ _ _ c.requires.low (sym c.in_ok-p.ensures.0) in (omega arith, h, omega arith)
 
-pub returns-in-Refused : goal.returns-in-Refused
+pub returns : goal.returns
 unfolding negation_word then
-returns-in-Refused c = (rw (gotten_no _ _ _ c.in-Refused.is c.name_ref.ensures.0), tt)
-
-pub returns-in-Got : goal.returns-in-Got
-unfolding negation_word then
-returns-in-Got c = (rw (gotten_got _ _ _ c.in-Got.is c.name_ref.ensures.0, c.word.ensures.0), c.word.ensures.1)
+returns c = (rw (← c.in_ok-p.ensures.0, c.word.ensures.0), c.word.ensures.1)

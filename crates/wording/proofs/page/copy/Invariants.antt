@@ -1,11 +1,7 @@
--- `page::copy` meets its contract: at each turn what is to be written from the start is what is to be written from here.
-use Prim.Native.Nat.{◌-◌}
-use lib.ListN.{length}
-use Rattle.wording.proofs.Copying.{At}
+-- What is to be written from the start is what is to be written from here.
+use Rattle.std.proofs.Common.{◌≡◌, drop}
+use Rattle.wording.specs.Page.{page, write}
 use Rattle.wording.proofs.page.copy.Given as goal
 
-abbrev pub invariant-loop-i : goal.invariant-loop-i
-invariant-loop-i l = At l.s l.initial.out l.at l.out l.k l.i
-
-abbrev pub decreases-loop-i : goal.decreases-loop-i
-decreases-loop-i l = length l.s - l.i
+abbrev pub invariant-loop-c : goal.invariant-loop-c
+invariant-loop-c l = write l.s (page l.initial.out l.at) ≡ write (drop l.c-index l.s) (page l.out l.k)

@@ -1,11 +1,7 @@
--- `page::skip` meets its contract: at each turn what stands past the bars from the start is what stands past those left from here.
-use Prim.Native.Nat.{◌-◌}
-use lib.ListN.{length}
-use Rattle.wording.proofs.Pieces.{Passing}
+-- So many bars are still to be passed.
+use Rattle.std.proofs.Common.{◌≡◌, drop}
+use Rattle.wording.specs.Text.{after}
 use Rattle.wording.proofs.page.skip.Given as goal
 
 abbrev pub invariant-loop-i : goal.invariant-loop-i
-invariant-loop-i l = Passing l.text l.k l.i l.left
-
-abbrev pub decreases-loop-i : goal.decreases-loop-i
-decreases-loop-i l = length l.text - l.i
+invariant-loop-i l = after l.k l.text ≡ after l.left (drop l.i l.text)

@@ -1,7 +1,7 @@
--- `template::fill` meets its contract: the bars are passed, then the piece is filled.
-use Rattle.wording.specs.Text.{piece}
+-- A character more is filled.
+use Rattle.std.proofs.Common.{◌∙◌}
+use Rattle.wording.proofs.Walking.{filled_more}
 use Rattle.wording.proofs.template.fill.Goals as goal
 
-pub returns : goal.returns
-unfolding piece
-returns c = rw c.skip.ensures.0 c.fill_from.ensures
+pub loop-c-preserved : goal.loop-c-preserved
+loop-c-preserved c = rw c.part-n.ensures (c.loop-c.invariant ∙ filled_more _ _ _ _ c.loop-c-test.true)

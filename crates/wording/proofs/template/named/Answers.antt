@@ -1,19 +1,20 @@
--- `template::named` meets its contract: the tests pick the table.
-use borrow.Author.Tests.{eq-eqb, ne_eqb}
-use Rattle.wording.specs.Page.{pick}
+-- `template::named` meets its contract: the character picks the table.
+use Rattle.std.proofs.Common.{◌≡◌, arith, ne_eqb}
 use Rattle.wording.specs.Text.{text}
-use Rattle.wording.specs.Tables.{constructors, rules, refusals}
-use Rattle.wording.specs.Templates.{named as templates_named}
+use Rattle.wording.specs.Tables.{refusals, constructors, rules}
 use Rattle.wording.proofs.template.named.Goals as goal
 
-pub returns-then-c-eq55 : goal.returns-then-c-eq55
-unfolding templates_named pick constructors text
-returns-then-c-eq55 c = rw (eq-eqb _ _ c.if-c-eq55.true) c.words.ensures
+pub returns-in-55 : goal.returns-in-55
+unfolding constructors text
+returns-in-55 c = rw c.in-55.is c.words.ensures
 
-pub returns-then-c-eq56 : goal.returns-then-c-eq56
-unfolding templates_named pick rules text
-returns-then-c-eq56 c = rw (ne_eqb _ _ c.if-c-eq55.false, eq-eqb _ _ c.if-c-eq56.true) c.words-then-c-eq56.ensures
+pub returns-in-56 : goal.returns-in-56
+unfolding rules text
+returns-in-56 c = rw c.in-56.is c.words-in-56.ensures
 
-pub returns : goal.returns
-unfolding templates_named pick refusals text
-returns c = rw (ne_eqb _ _ c.if-c-eq55.false, ne_eqb _ _ c.if-c-eq56.false) c.words-2.ensures
+pub returns-in_default : goal.returns-in_default
+unfolding refusals text
+returns-in_default c =
+    let no_constructor : c.args.c ≡ 55 → ⊥ = omega arith in
+    let no_rule : c.args.c ≡ 56 → ⊥ = omega arith in
+    simp (ne_eqb _ _ no_constructor, ne_eqb _ _ no_rule) c.words-in_default.ensures
