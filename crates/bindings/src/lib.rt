@@ -4,9 +4,9 @@
 // When a value and a chain stand for the language's values and bindings is said in specs/Stands.antt.
 #![tactic(auto)]
 
-ghost use Rattle.std.specs.Prelude.{◌≡◌, ◌+◌, ◌*◌, ◌<◌, ◌≤◌, length};
+ghost use Rattle.std.specs.Prelude.{◌≡◌, ℕ, ◌+◌, ◌*◌, ◌<◌, ◌≤◌, ◌^◌, [], ◌∷◌, length};
 ghost use Rattle.std.proofs.lemmas.List.Edits.{sets};
-ghost use Rattle.bindings.specs.Numbers.{numbers, Small, value_of, binding_at, found};
+ghost use Rattle.bindings.specs.Numbers.{numbers, numbers_of, Small, SmallValue, value_of, binding_at, found};
 ghost use Rattle.bindings.specs.Stands.{Linked, under};
 
 mod tag;
@@ -62,13 +62,8 @@ pub fn push(t: &mut [u32], n: usize, b: Binding)
     ensures { t.new ≡ sets t.old (4 * n) (numbers b) }
 {
     let Binding { value, next } = b;
-    match value {
-        Value::Prop(p) => words::put_all(t, WIDTH * n, &[tag::PROP, p, 0, next]),
-        Value::Constructor(c) => words::put_all(t, WIDTH * n, &[tag::CONSTRUCTOR, c, 0, next]),
-        Value::Rule(r) => words::put_all(t, WIDTH * n, &[tag::RULE, r, 0, next]),
-        Value::Function(f) => words::put_all(t, WIDTH * n, &[tag::FUNCTION, f.phrase, f.env, next]),
-        Value::Method(m) => words::put_all(t, WIDTH * n, &[tag::METHOD, m.phrase, m.env, next]),
-    }
+    let (kind, one, two) = parts(value);
+    words::put_all(t, WIDTH * n, &[kind, one, two, next]);
 }
 
 // Binding number j.
@@ -91,6 +86,21 @@ pub fn scope(v: Value) -> usize
     match v {
         Value::Prop(_) | Value::Constructor(_) | Value::Rule(_) => 0,
         Value::Function(f) | Value::Method(f) => f.env,
+    }
+}
+
+// A value's kind and two parts, which fit a cell.
+fn parts(v: Value) -> (usize, usize, usize)
+    requires { SmallValue v }
+    ensures same { (next : ℕ) → result.0 ∷ result.1 ∷ result.2 ∷ next ∷ [] ≡ numbers_of v next }
+    ensures small { (result.0 < 2 ^ 32) × (result.1 < 2 ^ 32) × (result.2 < 2 ^ 32) }
+{
+    match v {
+        Value::Prop(p) => (tag::PROP, p, 0),
+        Value::Constructor(c) => (tag::CONSTRUCTOR, c, 0),
+        Value::Rule(r) => (tag::RULE, r, 0),
+        Value::Function(f) => (tag::FUNCTION, f.phrase, f.env),
+        Value::Method(m) => (tag::METHOD, m.phrase, m.env),
     }
 }
 

@@ -188,13 +188,13 @@ module _ (forms : List ℕ) (n p k : ℕ) (t : List ℕ) where
               (new_at x, rw r (F.meets (first_listable x)));
         }
 
-        module _ (ne : q ≡ 3 → ⊥) (b : ℕ) (jb : b ≡ right w) where
+        module _ (two : 4 ≤ q) (b : ℕ) (jb : b ≡ right w) where
           second_is : (x : Listable forms n p t k) → b ≡ right (code (row x).says)
           second_is x = jb ∙ ap right (says x)
 
           pub second_below : Listable forms n p t k → b < p
           second_below x =
-              rw (second_is x) (second_low x.trees p (small x) (row x).says (row x).below (omega (arith, kind_is x)) (λ e. ne (kind_is x ∙ e)))
+              rw (second_is x) (second_low x.trees p (small x) (row x).says (row x).below (omega (arith, kind_is x)) (λ e. omega (arith, kind_is x, e, two)))
 
           abbrev pub second_listable : Listable forms n p t k → Listable forms n b t₁ k₁
           second_listable x = record {
@@ -209,7 +209,7 @@ module _ (forms : List ℕ) (n p k : ℕ) (t : List ℕ) where
             opens = λ x.
                 let r : behind (tree x.trees p) x.before ≡ listed (tree x.trees b) (listed (tree x.trees a) x.before) =
                 ap (λ (f : Form). behind f x.before) (row x).tree
-                ∙ behind_two x.trees p (small x) (row x).says (row x).below (omega (arith, kind_is x)) (λ e. ne (kind_is x ∙ e)) x.before
+                ∙ behind_two x.trees p (small x) (row x).says (row x).below (omega (arith, kind_is x)) (λ e. omega (arith, kind_is x, e, two)) x.before
                 ∙ ap (λ (i : ℕ). listed (tree x.trees i) (listed (tree x.trees (left (code (row x).says))) x.before)) (sym (second_is x))
                 ∙ ap (λ (i : ℕ). listed (tree x.trees b) (listed (tree x.trees i) x.before)) (sym (first_is x)) in
                 (new_at x, rw r (G.meets (second_listable x)));

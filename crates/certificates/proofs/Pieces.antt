@@ -12,9 +12,9 @@ use Rattle.certificates.proofs.Emitting.{groups_few, Amid, amid_start, amid_more
 
 -- what follows a kind
 module _ (f : ℕ → List ℕ) (w : ℕ) where
-  parts_plain : (k : ℕ) → (k ≡ 0 → ⊥) → k < 3 → part_bytes f k w ≡ []
+  parts_plain : (k : ℕ) → 1 ≤ k → k < 3 → part_bytes f k w ≡ []
   unfolding part_bytes
-  parts_plain zero n h = absurd (n refl)
+  parts_plain zero n h = absurd (omega arith)
   parts_plain (suc zero) n h = refl
   parts_plain (suc (suc zero)) n h = refl
   parts_plain (suc (suc (suc k))) n h = absurd (omega arith)
@@ -35,10 +35,10 @@ module _ (f : ℕ → List ℕ) (w : ℕ) where
   unfolding second
   second_none k e = let z : k - 3 ≡ 0 = omega arith in rw z
 
-  second_some : (k : ℕ) → 3 ≤ k → (k ≡ 3 → ⊥) → second (k - 3) ≡ f (right w)
+  second_some : (k : ℕ) → 4 ≤ k → second (k - 3) ≡ f (right w)
   unfolding second
-  second_some k h n =
-      let z : k - 3 ≡ suc (k - 4) = omega (arith, n) in
+  second_some k h =
+      let z : k - 3 ≡ suc (k - 4) = omega arith in
       rw z
 
 -- a record, once its kind is known
@@ -69,7 +69,7 @@ module _ (b : Bool) (o : List ℕ) (at : ℕ) (t : List ℕ) (w k : ℕ) (jk : k
     atom_emitted l o₂ r j z g = amid_last (groups (left w)) (after_atom z) (rw j at g)
 
     -- true or false
-    pub plain_emitted : (k ≡ 0 → ⊥) → k < 3 → Emitted b o at (word_bytes t w) o₁ a
+    pub plain_emitted : 1 ≤ k → k < 3 → Emitted b o at (word_bytes t w) o₁ a
     plain_emitted n h = amid_end (rw (parts_plain (placed t) w k n h) at after_kind)
 
     -- a connective
@@ -91,13 +91,13 @@ module _ (b : Bool) (o : List ℕ) (at : ℕ) (t : List ℕ) (w k : ℕ) (jk : k
         pub neg_emitted : k ≡ 3 → Emitted b o at (word_bytes t w) o₂ c
         neg_emitted z = amid_end (rw (second_none (placed t) w k z) at after_first)
 
-        module _ (n : k ≡ 3 → ⊥) (r : ℕ) (jr : r ≡ right w) where
+        module _ (n : 4 ≤ k) (r : ℕ) (jr : r ≡ right w) where
           before_second : Amid b o at (word_bytes t w) o₂ c (placed t r)
-          before_second = rw (jr, ← second_some (placed t) w k h n) after_first
+          before_second = rw (jr, ← second_some (placed t) w k n) after_first
 
           pub second_fits : Placed t r × Fits b c (placed t r) o₂ × (c ≤ 1000010)
           second_fits = (
-            rw jr (pre.0.second (omega (arith, jk, h, n))),
+            rw jr (pre.0.second (omega (arith, jk, n))),
             amid_fits_last pre.1 (placed t r) before_second,
             omega (arith, near, g.past, groups_few (get_or t l 0 - 1)),
           )

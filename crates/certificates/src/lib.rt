@@ -13,7 +13,8 @@ ghost use Rattle.certificates.specs.Certified.{Writing, Orders, Writes};
 
 mod sink;
 
-use language::{Inferences, node};
+use forms::Kind;
+use language::{Inferences, Node};
 use sink::{Measure, Sink, Writer};
 
 // A certificate that is written: its length and its inferences.
@@ -140,16 +141,18 @@ fn list(listing: &mut [u32], forms: &[u32], n: usize, k: usize, p: usize) -> usi
         return k;
     }
     let w = words::at(forms, p);
-    let kind = forms::kind_of(w);
-    if kind < forms::kind::NOT {
-        return enter(listing, n, k, p);
+    match Kind::of_word(w) {
+        Kind::Atom | Kind::True | Kind::False => enter(listing, n, k, p),
+        Kind::Not => {
+            let first = list(listing, forms, n, k, forms::left_of(w));
+            enter(listing, n, first, p)
+        }
+        Kind::And | Kind::Or | Kind::If | Kind::Iff => {
+            let first = list(listing, forms, n, k, forms::left_of(w));
+            let second = list(listing, forms, n, first, forms::right_of(w));
+            enter(listing, n, second, p)
+        }
     }
-    let first = list(listing, forms, n, k, forms::left_of(w));
-    if kind == forms::kind::NOT {
-        return enter(listing, n, first, p);
-    }
-    let second = list(listing, forms, n, first, forms::right_of(w));
-    enter(listing, n, second, p)
 }
 
 // The number p in the next place, k.
@@ -167,18 +170,18 @@ fn head_of(tokens: &[u32], i: usize) -> Head
     requires { i ≤ 16384 }
     ensures { (result ≡ head_by (get_or tokens.now i 0) (get_or tokens.now (i + 1) 0)) × (1 ≤ result.width) × (result.width ≤ 2) × (result.rules.0 ≤ 1) }
 {
-    match words::at(tokens, i) {
-        node::RULE => Head {
+    match Node::of(words::at(tokens, i)) {
+        Node::Rule => Head {
             width: 2,
             names: language::arguments(words::at(tokens, i + 1)),
             rules: Inferences(1),
         },
-        node::SEQUENCE => Head {
+        Node::Sequence => Head {
             width: 1,
             names: 0,
             rules: Inferences(0),
         },
-        _ => Head {
+        Node::Hypothesis => Head {
             width: 1,
             names: 1,
             rules: Inferences(0),
@@ -225,20 +228,17 @@ fn emit_record<S: Sink>(sink: &mut S, listing: &[u32], w: usize)
     ensures same { S.name sink.new ≡ S.name sink.old }
     ensures emitted { Emitted S.writes (S.bytes sink.old) (S.place sink.old) (word_bytes listing.now w) (S.bytes sink.new) (S.place sink.new) }
 {
-    let kind = forms::kind_of(w);
-    sink.number(kind);
-    if kind == forms::kind::ATOM {
-        sink.number(forms::left_of(w));
-        return;
+    let kind = Kind::of_word(w);
+    sink.number(kind.number());
+    match kind {
+        Kind::Atom => sink.number(forms::left_of(w)),
+        Kind::True | Kind::False => {}
+        Kind::Not => emit_place(sink, listing, forms::left_of(w)),
+        Kind::And | Kind::Or | Kind::If | Kind::Iff => {
+            emit_place(sink, listing, forms::left_of(w));
+            emit_place(sink, listing, forms::right_of(w));
+        }
     }
-    if kind < forms::kind::NOT {
-        return;
-    }
-    emit_place(sink, listing, forms::left_of(w));
-    if kind == forms::kind::NOT {
-        return;
-    }
-    emit_place(sink, listing, forms::right_of(w));
 }
 
 // The proof that the first m tokens tell. `left` propositions follow before the next node begins.
@@ -271,7 +271,7 @@ fn emit_head<S: Sink>(sink: &mut S, tokens: &[u32], i: usize)
 {
     let token = words::at(tokens, i);
     sink.number(token);
-    if token == node::RULE {
+    if token == Node::Rule as usize {
         sink.number(words::at(tokens, i + 1));
     }
 }

@@ -18,9 +18,8 @@ use Rattle.forms.proofs.Growth.{after}
 use Rattle.rules.specs.Base.{base_of}
 use Rattle.std.specs.Prelude.{Result, Ok, Err}
 use Rattle.language.specs.declared.refusal.Refusal.{Refusal}
-use Rattle.checker.specs.declared.walking.Walked.{Walked}
 use Rattle.checker.specs.Places.{next_at, name_at}
-use Rattle.checker.specs.Walk.{node_at, under_at, Setting, Room, Awaits, Derived, Meets, Walks}
+use Rattle.checker.specs.Walk.{node_at, under_at, Setting, Room, Awaits, Derived, Meets, Walks, Reached}
 use Rattle.checker.proofs.Nodes.{Under, under_read, node_counts}
 use Rattle.checker.proofs.RuleNodes.{Argued, reference_got}
 use Rattle.checker.proofs.Stacks.{pushed, pushed_base, more_words, old_trees}
@@ -60,14 +59,14 @@ module _ (t base names s : List ℕ) (n b d a p h : ℕ) (ep : (p ≡ name_at na
     inside_read : node_at d s h ps (used + 1) ≡ got said.inside next
     inside_read = rw (ep.1, argued.next) said.read
 
-    module _ (u base₂ : List ℕ) (r : Result Walked Refusal) (W : Walks (node_at d s h) t (set base b p) names n (b + 1) d u base₂ r) where
+    module _ (u base₂ : List ℕ) (r : Result Reached Refusal) (W : Walks (node_at d s h) t (set base b p) names n (b + 1) d u base₂ r) where
       inside_meets : Meets u fs n (used + 1) said.inside.nodes next r (concluded (said.hypothesis ∷ base_of fs base b) said.inside.node)
       inside_meets =
           subst (λ (β : List Form). Meets u fs n (used + 1) said.inside.nodes next r (concluded β said.inside.node)) inside_base
           (W.meets fs ps inside_setting (used + 1) said.inside next inside_read inside_room)
 
     -- after the proof under it
-    module _ (u base₂ : List ℕ) (w : Walked) (W : Walks (node_at d s h) t (set base b p) names n (b + 1) d u base₂ (Ok w)) (lu : length u ≡ length t) where
+    module _ (u base₂ : List ℕ) (w : Reached) (W : Walks (node_at d s h) t (set base b p) names n (b + 1) d u base₂ (Ok w)) (lu : length u ≡ length t) where
       after_inside : After u fs n (used + 1) said.inside.nodes next w (concluded (said.hypothesis ∷ base_of fs base b) said.inside.node)
       after_inside =
           after_walk u fs n (used + 1) said.inside.nodes next w (concluded (said.hypothesis ∷ base_of fs base b) said.inside.node)
@@ -163,7 +162,7 @@ module _ (t base names s : List ℕ) (n b d a p h : ℕ) (ep : (p ≡ name_at na
             (λ q at. got (bin cond r.hypothesis q) at) (inside_meets fs ps S used c next e room u base₂ (Err x) W));
       }
 
-  module _ (base₁ u base₂ : List ℕ) (w : Walked) (f : base₁ ≡ set base b p) (W₁ : Walks (node_at d s h) t base₁ names n (b + 1) d u base₂ (Ok w)) (lu : length u ≡ length t) where
+  module _ (base₁ u base₂ : List ℕ) (w : Reached) (f : base₁ ≡ set base b p) (W₁ : Walks (node_at d s h) t base₁ names n (b + 1) d u base₂ (Ok w)) (lu : length u ≡ length t) where
     W : Walks (node_at d s h) t (set base b p) names n (b + 1) d u base₂ (Ok w)
     W = rw f at W₁
 

@@ -22,8 +22,7 @@ use Rattle.forms.specs.Table.{tree}
 use Rattle.forms.proofs.Trees.{same_at}
 use Rattle.rules.specs.Base.{base_of}
 use Rattle.checker.specs.declared.reading.Stated.{Stated}
-use Rattle.checker.specs.declared.walking.Walked.{Walked}
-use Rattle.checker.specs.Walk.{node_at, Setting, Room, Awaits, Meets, Walks}
+use Rattle.checker.specs.Walk.{node_at, Setting, Room, Awaits, Meets, Walks, Reached}
 use Rattle.checker.specs.Tally.{proof_at, certified}
 use Rattle.checker.specs.Judge.{Stating, Judged}
 use Rattle.checker.proofs.Readings.{got_both}
@@ -109,7 +108,7 @@ module _ (t base s names : List ℕ) (n b at : ℕ) (c : Stated) (long : n + 716
       }
 
   -- a conclusion, and the number of the one that is stated
-  module _ (u base₁ : List ℕ) (walked : Walked) (W : Walks (node_at 512 s at) t base names n b 512 u base₁ (Ok walked)) (lu : length u ≡ length t) where
+  module _ (u base₁ : List ℕ) (walked : Reached) (W : Walks (node_at 512 s at) t base names n b 512 u base₁ (Ok walked)) (lu : length u ≡ length t) where
     module _ (fs ps : List Form) (S : Setting t base names n b 512 fs ps) (said : Ok c ≡ certified (proof_at s ps at)) (C : Certificate) (end : ℕ) (e : proof_at s ps at ≡ got C end) where
       abbrev P : Proved s ps at C end
       P = proved s ps at C end e

@@ -10,8 +10,7 @@ use Rattle.language.specs.Form.{Form}
 use Rattle.language.specs.Numbers.{Got, got, no, then}
 use Rattle.std.specs.Prelude.{Result, Ok, Err}
 use Rattle.language.specs.declared.refusal.Refusal.{Refusal}
-use Rattle.checker.specs.declared.walking.Walked.{Walked}
-use Rattle.checker.specs.Walk.{Setting, Derived, Meets}
+use Rattle.checker.specs.Walk.{Setting, Derived, Meets, Reached}
 
 -- less room on the stack
 pub setting_less : (t base names : List ℕ) (n b deep less : ℕ) (fs ps : List Form) → less ≤ deep → Setting t base names n b deep fs ps → Setting t base names n b less fs ps
@@ -20,14 +19,14 @@ setting_less t base names n b deep less fs ps h S =
     record { table = S.table; named = S.named; based = S.based; stack = omega arith }
 
 -- what the definition concludes where the walk does
-pub record After (t : List ℕ) (fs : List Form) (n used nodes next : ℕ) (w : Walked) (g : Got Form) : Type 0 where
+pub record After (t : List ℕ) (fs : List Form) (n used nodes next : ℕ) (w : Reached) (g : Got Form) : Type 0 where
   pub q : Form
   pub at : ℕ
   pub is : g ≡ got q at
   pub place : w.next ≡ next
   pub derived : Derived t fs n used nodes w.conclusion w.size q
 
-pub after_walk : (t : List ℕ) (fs : List Form) (n used nodes next : ℕ) (w : Walked) (g : Got Form) → Meets t fs n used nodes next (Ok w) g → After t fs n used nodes next w g
+pub after_walk : (t : List ℕ) (fs : List Form) (n used nodes next : ℕ) (w : Reached) (g : Got Form) → Meets t fs n used nodes next (Ok w) g → After t fs n used nodes next w g
 after_walk t fs n used nodes next w (got q at) M = record { q = q; at = at; is = refl; place = M.0; derived = M.1 }
 after_walk t fs n used nodes next w (no why place) M = absurd M
 
@@ -47,7 +46,7 @@ kept_below base₁ base₂ b p e =
     sym (take-take b (b + 1) base₂ (omega arith)) ∙ ap (take b) e ∙ take-take b (b + 1) (set base₁ b p) (omega arith) ∙ take-set-le b base₁ b p (le_refl b)
 
 -- what is derived over more trees is derived over the old ones
-pub meets_more : (t : List ℕ) (fs gs : List Form) (n k used one nodes next : ℕ) (r : Result Walked Refusal) (g : Got Form) → k + used ≤ n + one → Meets t (fs ++ gs) k one nodes next r g → Meets t fs n used nodes next r g
+pub meets_more : (t : List ℕ) (fs gs : List Form) (n k used one nodes next : ℕ) (r : Result Reached Refusal) (g : Got Form) → k + used ≤ n + one → Meets t (fs ++ gs) k one nodes next r g → Meets t fs n used nodes next r g
 meets_more t fs gs n k used one nodes next (Ok w) (got q at) h M =
     let D = M.1 in
     let a = append_assoc fs gs D.more in

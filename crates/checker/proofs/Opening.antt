@@ -8,9 +8,8 @@ use Rattle.language.specs.Numbers.{got}
 use Rattle.language.specs.Check.{Counted}
 use Rattle.std.specs.Prelude.{Result}
 use Rattle.language.specs.declared.refusal.Refusal.{Refusal}
-use Rattle.checker.specs.declared.walking.Walked.{Walked}
 use Rattle.checker.specs.Places.{value_at, next_at}
-use Rattle.checker.specs.Walk.{Reading, node_at, rule_at, two_at, under_at, Awaits, Walks}
+use Rattle.checker.specs.Walk.{Reading, node_at, rule_at, two_at, under_at, Awaits, Walks, Reached}
 use Rattle.checker.proofs.Nodes.{node_rule, node_two, node_under, node_deep}
 use Rattle.checker.proofs.Meetings.{setting_less}
 
@@ -29,7 +28,7 @@ module _ (read other : Reading) (t base names : List ℕ) (n b deep less : ℕ) 
         room = A.room;
       }
 
-  walks_as : (u base₁ : List ℕ) (r : Result Walked Refusal) → Walks other t base names n b less u base₁ r → Walks read t base names n b deep u base₁ r
+  walks_as : (u base₁ : List ℕ) (r : Result Reached Refusal) → Walks other t base names n b less u base₁ r → Walks read t base names n b deep u base₁ r
   walks_as u base₁ r W =
       record {
         kept = W.kept;
@@ -46,7 +45,7 @@ module _ (t base names s : List ℕ) (n b d at v a : ℕ) (ev : (v ≡ value_at 
     pub walk_rule : Awaits (node_at d s at) t base names n b d → Awaits (rule_at s at a) t base names n b 0
     walk_rule = awaits_as (node_at d s at) (rule_at s at a) t base names n b d 0 (omega arith) (λ ps used c next e. node_rule s ps used at c next d v a ev e f)
 
-    pub rule_walked : (u base₁ : List ℕ) (r : Result Walked Refusal) → Walks (rule_at s at a) t base names n b 0 u base₁ r → Walks (node_at d s at) t base names n b d u base₁ r
+    pub rule_walked : (u base₁ : List ℕ) (r : Result Reached Refusal) → Walks (rule_at s at a) t base names n b 0 u base₁ r → Walks (node_at d s at) t base names n b d u base₁ r
     rule_walked = walks_as (node_at d s at) (rule_at s at a) t base names n b d 0 (omega arith) (λ ps used c next e. node_rule s ps used at c next d v a ev e f)
 
   module _ (deep : 0 < d) where
@@ -57,12 +56,12 @@ module _ (t base names s : List ℕ) (n b d at v a : ℕ) (ev : (v ≡ value_at 
       pub walk_two : Awaits (node_at d s at) t base names n b d → Awaits (two_at (d - 1) s a) t base names n b (d - 1 + 1)
       walk_two = awaits_as (node_at d s at) (two_at (d - 1) s a) t base names n b d (d - 1 + 1) one_less (λ ps used c next e. node_two s ps used at c next d v a ev e f)
 
-      pub two_walked : (u base₁ : List ℕ) (r : Result Walked Refusal) → Walks (two_at (d - 1) s a) t base names n b (d - 1 + 1) u base₁ r → Walks (node_at d s at) t base names n b d u base₁ r
+      pub two_walked : (u base₁ : List ℕ) (r : Result Reached Refusal) → Walks (two_at (d - 1) s a) t base names n b (d - 1 + 1) u base₁ r → Walks (node_at d s at) t base names n b d u base₁ r
       two_walked = walks_as (node_at d s at) (two_at (d - 1) s a) t base names n b d (d - 1 + 1) one_less (λ ps used c next e. node_two s ps used at c next d v a ev e f)
 
     module _ (f : v ≡ 0 → ⊥) (g : v ≡ 1 → ⊥) where
       pub walk_under : Awaits (node_at d s at) t base names n b d → Awaits (under_at (d - 1) s a) t base names n b (d - 1 + 1)
       walk_under = awaits_as (node_at d s at) (under_at (d - 1) s a) t base names n b d (d - 1 + 1) one_less (λ ps used c next e. node_under s ps used at c next d v a ev e f g)
 
-      pub under_walked : (u base₁ : List ℕ) (r : Result Walked Refusal) → Walks (under_at (d - 1) s a) t base names n b (d - 1 + 1) u base₁ r → Walks (node_at d s at) t base names n b d u base₁ r
+      pub under_walked : (u base₁ : List ℕ) (r : Result Reached Refusal) → Walks (under_at (d - 1) s a) t base names n b (d - 1 + 1) u base₁ r → Walks (node_at d s at) t base names n b d u base₁ r
       under_walked = walks_as (node_at d s at) (under_at (d - 1) s a) t base names n b d (d - 1 + 1) one_less (λ ps used c next e. node_under s ps used at c next d v a ev e f g)

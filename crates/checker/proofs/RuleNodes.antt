@@ -24,9 +24,8 @@ use Rattle.std.specs.Prelude.{Result, Ok, Err}
 use Rattle.language.specs.declared.refusal.Why.{Why}
 use Rattle.language.specs.declared.refusal.Refusal.{Refusal}
 use Rattle.forms.specs.declared.Formed.{Formed}
-use Rattle.checker.specs.declared.walking.Walked.{Walked}
 use Rattle.checker.specs.Places.{value_at, next_at, name_at, name_if, next_if, arguments_at}
-use Rattle.checker.specs.Walk.{rule_at, Setting, Room, Awaits, Meets, Walks}
+use Rattle.checker.specs.Walk.{rule_at, Setting, Room, Awaits, Meets, Walks, Reached}
 use Rattle.checker.proofs.Readings.{got_both, number_got}
 use Rattle.checker.proofs.Nodes.{rule_read}
 
@@ -106,7 +105,7 @@ module _ (s : List ℕ) (ps : List Form) (names : List ℕ) (fs : List Form) (n 
   times_read (suc (suc (suc (suc k)))) h at xs next e = absurd (omega arith)
 
 -- a rule's answer as its node's
-abbrev pub walked_of : ℕ → ℕ → Result Formed Why → Result Walked Refusal
+abbrev pub walked_of : ℕ → ℕ → Result Formed Why → Result Reached Refusal
 walked_of at next (Ok f) = Ok (record { conclusion = f.at; next = next; size = f.size })
 walked_of at next (Err w) = Err (record { 0 = w; 1 = at })
 
@@ -155,7 +154,7 @@ module _ (t base names s : List ℕ) (n b at a v c k : ℕ) (g : Arguments) (ev 
         let w : g ≡ arguments_at names s (get_or arity rule 0) r.place = rw (← same_rule, ← r.named.1, ← ev.1, ← ek) eg in
         rw w (times_read s ps names fs n S.named (truth_at (take n t) fs S.table) (omega arith) (get_or arity rule 0) (three rule) r.place r.arguments next r.read)
 
-    rule_meets : (u : List ℕ) (answer : Result Formed Why) (w : Result Walked Refusal) → Ruling t n base b v g.x g.y g.z u answer → w ≡ walked_of at g.next answer → Meets u fs n used d.nodes next w (concluded (base_of fs base b) d.node)
+    rule_meets : (u : List ℕ) (answer : Result Formed Why) (w : Result Reached Refusal) → Ruling t n base b v g.x g.y g.z u answer → w ≡ walked_of at g.next answer → Meets u fs n used d.nodes next w (concluded (base_of fs base b) d.node)
     unfolding concluded
     rule_meets u answer w ruling walked =
         let r = rule_read s ps used at a d next e in
@@ -178,6 +177,6 @@ module _ (t base names s : List ℕ) (n b at a v c k : ℕ) (g : Arguments) (ev 
         based = A.setting.based;
       }
 
-  pub rule_walks : (u : List ℕ) (answer : Result Formed Why) (w : Result Walked Refusal) → Ruling t n base b v g.x g.y g.z u answer → w ≡ walked_of at g.next answer → Walks (rule_at s at a) t base names n b 0 u base w
+  pub rule_walks : (u : List ℕ) (answer : Result Formed Why) (w : Result Reached Refusal) → Ruling t n base b v g.x g.y g.z u answer → w ≡ walked_of at g.next answer → Walks (rule_at s at a) t base names n b 0 u base w
   rule_walks u answer w ruling walked =
       record { kept = refl; meets = λ fs ps S used d next e room. rule_meets fs ps S used d next e room u answer w ruling walked }

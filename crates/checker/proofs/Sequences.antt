@@ -10,8 +10,7 @@ use Rattle.language.specs.Check.{Counted, concluded}
 use Rattle.rules.specs.Base.{base_of}
 use Rattle.std.specs.Prelude.{Result, Ok, Err}
 use Rattle.language.specs.declared.refusal.Refusal.{Refusal}
-use Rattle.checker.specs.declared.walking.Walked.{Walked}
-use Rattle.checker.specs.Walk.{node_at, two_at, Setting, Room, Awaits, Meets, Walks}
+use Rattle.checker.specs.Walk.{node_at, two_at, Setting, Room, Awaits, Meets, Walks, Reached}
 use Rattle.checker.proofs.Nodes.{Two, two_read, node_counts}
 use Rattle.checker.proofs.Stacks.{pushed, pushed_base, more_words, old_trees}
 use Rattle.checker.proofs.Meetings.{After, after_walk, kept_below, meets_more, refused_then, setting_less, then_is}
@@ -37,7 +36,7 @@ module _ (t base names s : List ℕ) (n b d a : ℕ) where
         record { long = omega arith; small = omega arith }
 
     -- after the first
-    module _ (u base₁ : List ℕ) (w : Walked) (W : Walks (node_at d s a) t base names n b d u base₁ (Ok w)) (lu : length u ≡ length t) (lb : length base₁ ≡ length base) where
+    module _ (u base₁ : List ℕ) (w : Reached) (W : Walks (node_at d s a) t base names n b d u base₁ (Ok w)) (lu : length u ≡ length t) (lb : length base₁ ≡ length base) where
       after_first : After u fs n (used + 1) read.one.nodes read.place w (concluded (base_of fs base b) read.one.node)
       after_first =
           after_walk u fs n (used + 1) read.one.nodes read.place w (concluded (base_of fs base b) read.one.node)
@@ -79,7 +78,7 @@ module _ (t base names s : List ℕ) (n b d a : ℕ) where
       second_read : node_at d s w.next ps read.one.nodes ≡ got read.other next
       second_read = rw after_first.place read.second
 
-      two_meets : (u₂ base₂ : List ℕ) (r : Result Walked Refusal) → Walks (node_at d s w.next) u (set base₁ b w.conclusion) names w.size (b + 1) d u₂ base₂ r → Meets u₂ fs n used c.nodes next r (concluded (base_of fs base b) c.node)
+      two_meets : (u₂ base₂ : List ℕ) (r : Result Reached Refusal) → Walks (node_at d s w.next) u (set base₁ b w.conclusion) names w.size (b + 1) d u₂ base₂ r → Meets u₂ fs n used c.nodes next r (concluded (base_of fs base b) c.node)
       unfolding concluded then
       two_meets u₂ base₂ r W₂ =
           let M = W₂.meets (fs ++ after_first.derived.more) ps second_setting read.one.nodes read.other next second_read second_room in
@@ -120,7 +119,7 @@ module _ (t base names s : List ℕ) (n b d a : ℕ) where
       }
 
   -- after the first, its conclusion is pushed and the second may be walked
-  module _ (u base₁ : List ℕ) (w : Walked) (W : Walks (node_at d s a) t base names n b d u base₁ (Ok w)) (lu : length u ≡ length t) (lb : length base₁ ≡ length base) where
+  module _ (u base₁ : List ℕ) (w : Reached) (W : Walks (node_at d s a) t base names n b d u base₁ (Ok w)) (lu : length u ≡ length t) (lb : length base₁ ≡ length base) where
     pub push_fits : Awaits (two_at d s a) t base names n b (d + 1) → w.conclusion < 16384
     push_fits A =
         let f = fits A.trees A.listing A.setting A.used A.counted A.next A.was_read A.room u base₁ w W lu lb in
@@ -144,7 +143,7 @@ module _ (t base names s : List ℕ) (n b d a : ℕ) where
           room = second_room A.trees A.listing A.setting A.used A.counted A.next A.was_read A.room u base₁ w W lu lb;
         })
 
-    pub two_concluded : (base₂ u₂ base₃ : List ℕ) (r : Result Walked Refusal) → base₂ ≡ set base₁ b w.conclusion → Walks (node_at d s w.next) u base₂ names w.size (b + 1) d u₂ base₃ r → Walks (two_at d s a) t base names n b (d + 1) u₂ base₃ r
+    pub two_concluded : (base₂ u₂ base₃ : List ℕ) (r : Result Reached Refusal) → base₂ ≡ set base₁ b w.conclusion → Walks (node_at d s w.next) u base₂ names w.size (b + 1) d u₂ base₃ r → Walks (two_at d s a) t base names n b (d + 1) u₂ base₃ r
     two_concluded base₂ u₂ base₃ r e W₂ =
         let W₃ = rw e at W₂ in
         record {

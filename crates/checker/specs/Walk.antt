@@ -10,6 +10,7 @@ use Rattle.rules.specs.Base.{base_of}
 use Rattle.language.specs.Numbered.{number_of}
 use Rattle.language.specs.declared.refusal.Refusal.{Refusal}
 use Rattle.checker.specs.declared.walking.Walked.{Walked}
+use Rattle.checker.specs.declared.walking.Walk.{Walk}
 
 -- reading a node, or its rest, over a listing and after so many nodes
 abbrev pub Reading : Type 0
@@ -73,16 +74,36 @@ pub record Derived (t : List ℕ) (fs : List Form) (n used nodes p k : ℕ) (q :
   pub is : tree (fs ++ more) p ≡ q
   pub paid : k + used ≤ n + nodes
 
+-- the conclusion's number, the place past the node and the count of words in use
+pub record Reached : Type 0 where
+  pub conclusion : ℕ
+  pub next : ℕ
+  pub size : ℕ
+
+-- what a walk answers, with the count of words that it leaves in use
+abbrev pub reached : ℕ → Result Walked Refusal → Result Reached Refusal
+reached k (Ok w) = Ok (record { conclusion = w.conclusion; next = w.next; size = k })
+reached k (Err r) = Err r
+
 -- a walk that ends at `next` answers what the definition concludes
-abbrev pub Meets : List ℕ → List Form → ℕ → ℕ → ℕ → ℕ → Result Walked Refusal → Got Form → Type 0
+abbrev pub Meets : List ℕ → List Form → ℕ → ℕ → ℕ → ℕ → Result Reached Refusal → Got Form → Type 0
 Meets t fs n used nodes next (Ok w) (got q at) = (w.next ≡ next) × Derived t fs n used nodes w.conclusion w.size q
 Meets t fs n used nodes next (Ok w) (no why place) = ⊥
 Meets t fs n used nodes next (Err r) (got q at) = ⊥
 Meets t fs n used nodes next (Err r) (no why place) = (number_of r.0 ≡ why) × (r.1 ≡ place)
 
 -- the base below is kept; and whatever was read is answered as the definition concludes it
-pub record Walks (read : Reading) (t₀ base₀ names : List ℕ) (n b deep : ℕ) (t base : List ℕ) (r : Result Walked Refusal) : Type 0 where
+pub record Walks (read : Reading) (t₀ base₀ names : List ℕ) (n b deep : ℕ) (t base : List ℕ) (r : Result Reached Refusal) : Type 0 where
   pub kept : take b base ≡ take b base₀
   pub meets : (fs ps : List Form) → Setting t₀ base₀ names n b deep fs ps →
       (used : ℕ) (c : Counted) (next : ℕ) → read ps used ≡ got c next → Room t₀ n used c.nodes →
       Meets t fs n used c.nodes next r (concluded (base_of fs base₀ b) c.node)
+
+-- both go over the same lent buffers, which are as long as they were, and read the same bytes and names
+pub record Same (x y : Walk) : Type 0 where
+  pub forms : y.forms.ghost_name ≡ x.forms.ghost_name
+  pub base : y.base.ghost_name ≡ x.base.ghost_name
+  pub certificate : y.certificate ≡ x.certificate
+  pub names : y.names ≡ x.names
+  pub forms_long : length y.forms.now ≡ length x.forms.now
+  pub base_long : length y.base.now ≡ length x.base.now

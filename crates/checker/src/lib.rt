@@ -9,10 +9,11 @@ ghost use Rattle.std.specs.Prelude.{◌≡◌, true, not, ◌≤◌};
 ghost use Rattle.language.specs.Doors.{checked_numbers, verdict_numbers, check_lengths, enough, wiped};
 ghost use Rattle.language.specs.Check.{certificate_at, verdict};
 ghost use Rattle.checker.specs.Judge.{Stating, Judged};
-ghost use Rattle.checker.specs.Verdicts.{scratch, Lengths, Checks, Begun, Answers, listing_at, Listed, ProofAnswers};
+ghost use Rattle.checker.specs.Verdicts.{scratch, Lengths, Checks, Begun, Answers, Listed, ProofAnswers};
 
 use language::{Refusal, Stands, Why};
-use reading::Stated;
+use reading::{Reading, Stated};
+use walking::Walk;
 
 mod reading;
 mod walking;
@@ -112,7 +113,8 @@ fn answer(
     against(names, forms, base, certificate, c.words, c.base)
 }
 
-// A certificate in the base that the sheet's reading left: the first n words of the table and the first b numbers of the base.
+// A certificate in the base that the sheet's reading left, the first n words of the table and the first b numbers of the base:
+// so many listed propositions, then the proof over them.
 fn against(
     names: &mut [u32],
     forms: &mut [u32],
@@ -125,66 +127,44 @@ fn against(
     ensures { Answers (certificate_at s.now) forms.old base.old n b result }
 {
     let (count, at) = numbers::read_from(s, 0, 0, LISTED).map_err(reading::own)?;
-    over_listing(names, forms, base, s, n, b, count, at)
-}
-
-// So many listed propositions, then the proof over them.
-fn over_listing(
-    names: &mut [u32],
-    forms: &mut [u32],
-    base: &mut [u32],
-    s: &[u8],
-    n: usize,
-    b: usize,
-    count: usize,
-    at: usize,
-) -> Result<Stands, Refusal>
-    requires { Begun names.old forms.old base.old n b × (count ≤ 4608) }
-    ensures { Answers (listing_at s.now count at) forms.old base.old n b result }
-{
     let listed = reader::read_propositions(names, forms, s, count, n, at);
     let next = listed.ended.map_err(reading::own)?;
-    over_proof(forms, base, s, names, listed.words, b, count, next)
+    let mut walk = Walk {
+        forms,
+        size: listed.words,
+        base,
+        certificate: s,
+        names,
+    };
+    walk.over_proof(b, count, next)
 }
 
-// The proof over a listing of so many propositions, read and then judged.
-fn over_proof(
-    forms: &mut [u32],
-    base: &mut [u32],
-    s: &[u8],
-    names: &[u32],
-    n: usize,
-    b: usize,
-    count: usize,
-    at: usize,
-) -> Result<Stands, Refusal>
-    requires { Listed names.now forms.old base.old n b count }
-    ensures { ProofAnswers s.now at names.now forms.old base.old n b count result }
-{
-    let stated = reading::read_proof(s, count, at).map_err(reading::own)?;
-    judge(forms, base, s, names, n, b, at, stated)
-}
-
-// The proof at `at`, which was read and found in order, in the base: what it concludes against what is stated.
-fn judge(
-    t: &mut [u32],
-    base: &mut [u32],
-    s: &[u8],
-    names: &[u32],
-    n: usize,
-    b: usize,
-    at: usize,
-    stated: Stated,
-) -> Result<Stands, Refusal>
-    requires { Stating t.old base.old s.now names.now n b at stated }
-    ensures { Judged t.old base.old s.now names.now n b at stated result }
-{
-    let w = walking::walk(t, base, s, names, n, b, NESTED, at)?;
-    if w.conclusion == words::at(names, stated.conclusion) {
-        return Ok(Stands {
-            conclusion: stated.conclusion,
-            inferences: stated.rules,
-        });
+impl<'a> Walk<'a> {
+    // The proof over a listing of so many propositions, read and then judged.
+    fn over_proof(&mut self, b: usize, count: usize, at: usize) -> Result<Stands, Refusal>
+        requires { Listed self.old.names.now self.old.forms.now self.old.base.now self.old.size b count }
+        ensures { ProofAnswers self.old.certificate.now at self.old.names.now self.old.forms.now self.old.base.now self.old.size b count result }
+    {
+        let reading = Reading {
+            certificate: self.certificate,
+            count,
+        };
+        let stated = reading.proof(at).map_err(reading::own)?;
+        self.judge(b, at, stated)
     }
-    Err(Refusal(Why::StatedDiffers, stated.place))
+
+    // The proof at `at`, which was read and found in order, in the base: what it concludes against what is stated.
+    fn judge(&mut self, b: usize, at: usize, stated: Stated) -> Result<Stands, Refusal>
+        requires { Stating self.old.forms.now self.old.base.now self.old.certificate.now self.old.names.now self.old.size b at stated }
+        ensures { Judged self.old.forms.now self.old.base.now self.old.certificate.now self.old.names.now self.old.size b at stated result }
+    {
+        let w = self.node(b, NESTED, at)?;
+        if w.conclusion == words::at(self.names, stated.conclusion) {
+            return Ok(Stands {
+                conclusion: stated.conclusion,
+                inferences: stated.rules,
+            });
+        }
+        Err(Refusal(Why::StatedDiffers, stated.place))
+    }
 }

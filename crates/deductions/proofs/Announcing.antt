@@ -24,7 +24,6 @@ use Rattle.expressions.specs.declared.State.{State}
 use Rattle.expressions.specs.Machine.{Shared, mk as mkE, done, refused as refusedE, kind, one, two}
 use Rattle.expressions.specs.Asked.{Text, Row, Ready as ReadyE}
 use Rattle.expressions.specs.Meets.{Evaluated}
-use Rattle.deductions.specs.declared.Progress.{Progress}
 use Rattle.deductions.specs.Machine.{M, inner, remaining, moved, concluded, refused, out_of, compared_by, compared_of}
 use Rattle.deductions.specs.Asked.{In, Setting, Ready}
 use Rattle.deductions.specs.Meets.{Grew, Meets, Deduced, Stepped}
@@ -123,7 +122,7 @@ module _ (s : Shared) (d env b k f j : ℕ) (m : M) (is : kind s.phrases k ≡ 2
       -- the announced proposition against the conclusion
       compared : (fs more more₂ : List Form) (told : List ℕ) (y : Derived) (X : Val) (v : Value) (rows : List (List ℕ)) → Grew 0 0 0 b m m₁ fs more told → Is (fs ++ more) q y.conclusion → Tells (fs ++ more) y.proof told
           → Grew 0 0 1 b m₁ (moved m₁ t u st) (fs ++ more) more₂ [] → Stands rows ((fs ++ more) ++ more₂) u st.bindings X v
-          → Meets 4 4 11 b m fs (out_of t u m₁.base m₁.tokens (compared_of v st m₁.at.tokens q k)) (as_form X k (λ F. must (same F y.conclusion) announced_differs k (out y st.remaining.0)))
+          → Meets 4 4 11 b m fs (out_of (moved m₁ t u st) (compared_of v q k)) (as_form X k (λ F. must (same F y.conclusion) announced_differs k (out y st.remaining.0)))
       unfolding compared_of Meets must as_form
       compared fs more more₂ told y X (Prop p) rows g c T g₂ s₂ =
           let Q = proposition rows ((fs ++ more) ++ more₂) u st.bindings X (Prop p) p s₂ refl in
@@ -135,12 +134,12 @@ module _ (s : Shared) (d env b k f j : ℕ) (m : M) (is : kind s.phrases k ≡ 2
           ap (λ (F : Form). same F y.conclusion) (sym Q.2.tree) ∙ ap (same (tree ((fs ++ more) ++ more₂) p)) (sym c₂.tree) ∙ same_at (used (moved m₁ t u st)) ((fs ++ more) ++ more₂) table p q (omega arith) (omega arith) in
           let whole = append-nil told in
           let G = subst (Grew 4 4 11 b m (moved m₁ t u st) fs (more ++ more₂)) whole (grew_then 0 0 0 b 0 0 1 b 4 4 11 m m₁ (moved m₁ t u st) fs more more₂ told [] g g₂ (omega arith) (omega arith) (omega arith) (le_refl b)) in
-          subst (λ (Y : Val). Meets 4 4 11 b m fs (out_of t u m₁.base m₁.tokens (compared_by (eqb p q) st m₁.at.tokens q k)) (as_form Y k (λ F. must (same F y.conclusion) announced_differs k (out y st.remaining.0)))) (sym Q.1)
-          (subst (λ (w : Bool). Meets 4 4 11 b m fs (out_of t u m₁.base m₁.tokens (compared_by (eqb p q) st m₁.at.tokens q k)) (must w announced_differs k (out y st.remaining.0))) (sym test)
+          subst (λ (Y : Val). Meets 4 4 11 b m fs (out_of (moved m₁ t u st) (compared_by (eqb p q) q k)) (as_form Y k (λ F. must (same F y.conclusion) announced_differs k (out y st.remaining.0)))) (sym Q.1)
+          (subst (λ (w : Bool). Meets 4 4 11 b m fs (out_of (moved m₁ t u st) (compared_by (eqb p q) q k)) (must w announced_differs k (out y st.remaining.0))) (sym test)
           (by_test (eqb p q) fs more more₂ told y G c₂ (tells_more (fs ++ more) more₂ y.proof told T)))
         where
           by_test : (w : Bool) (fs more more₂ : List Form) (told : List ℕ) (y : Derived) → Grew 4 4 11 b m (moved m₁ t u st) fs (more ++ more₂) told → Is ((fs ++ more) ++ more₂) q y.conclusion → Tells ((fs ++ more) ++ more₂) y.proof told
-              → Meets 4 4 11 b m fs (out_of t u m₁.base m₁.tokens (compared_by w st m₁.at.tokens q k)) (must w announced_differs k (out y st.remaining.0))
+              → Meets 4 4 11 b m fs (out_of (moved m₁ t u st) (compared_by w q k)) (must w announced_differs k (out y st.remaining.0))
           by_test true fs more more₂ told y G c T = concluded_by 4 4 11 b m (moved m₁ t u st) fs (more ++ more₂) ((fs ++ more) ++ more₂) told q y.conclusion y.proof (append_assoc fs more more₂) G c T
           by_test false fs more more₂ told y G c T = (refl, refl)
       compared fs more more₂ told y X (Constructor o) rows g c T g₂ s₂ =
@@ -152,7 +151,7 @@ module _ (s : Shared) (d env b k f j : ℕ) (m : M) (is : kind s.phrases k ≡ 2
       compared fs more more₂ told y X (Method o) rows g c T g₂ s₂ =
           subst (Meets 4 4 11 b m fs (refused wrong_kind k)) (sym (no_proposition rows ((fs ++ more) ++ more₂) u st.bindings X (Method o) k _ s₂ (λ z. omega arith))) (refl, refl)
 
-      pub by_is : (v : Value) (c : Result (ℕ × Progress) Refusal) → Evaluated s d env f (inner m₁) (done v (mkE t u st)) → c ≡ compared_of v st m₁.at.tokens q k → Stepped s d env b k m (out_of t u m₁.base m₁.tokens c)
+      pub by_is : (v : Value) (c : Result ℕ Refusal) → Evaluated s d env f (inner m₁) (done v (mkE t u st)) → c ≡ compared_of v q k → Stepped s d env b k m (out_of (moved m₁ t u st) c)
       unfolding next
       by_is v c A i = record {
         meets = λ x fs e β S l.

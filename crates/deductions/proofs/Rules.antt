@@ -30,10 +30,9 @@ use Rattle.tokens.specs.Tells.{Names, Tells}
 use Rattle.tokens.proofs.Growth.{names_more}
 use Rattle.rules.specs.Base.{base_of}
 use Rattle.rules.specs.Applied.{Ready as RuleReady, whether, outcome, Comes}
-use Rattle.expressions.specs.Machine.{Shared}
+use Rattle.expressions.specs.Machine.{counters, Shared}
 use Rattle.expressions.specs.Asked.{Text}
-use Rattle.deductions.specs.declared.Progress.{Progress}
-use Rattle.deductions.specs.Machine.{M, remaining, bound, refused, out_of, taken_by, taken_at, Long, inferred_of, Inferred}
+use Rattle.deductions.specs.Machine.{Progress, M, mk, progress, remaining, bound, refused, out_of, taken_by, taken_at, Long, inferred_of, Inferred}
 use Rattle.rules.specs.Base.{Alike}
 use Rattle.deductions.specs.Asked.{Setting, Applicable}
 use Rattle.deductions.specs.Meets.{Meets, Applying}
@@ -225,12 +224,12 @@ module _ (s : Shared) (m : M) (y b n r : ℕ) where
 
     -- the rule's answer
 
-    module _ (p q z : ℕ) (t u : List ℕ) (fs : List Form) (ps : List Form) (T : Table (used m) fs) (names : Names fs (take n (p ∷ (q ∷ (z ∷ [])))) ps) (arity-is : n ≡ get_or arity r 0) (rule : r ≤ 15)
+    module _ (p q z : ℕ) (t u : List ℕ) (at' : Progress) (fs : List Form) (ps : List Form) (T : Table (used m) fs) (names : Names fs (take n (p ∷ (q ∷ (z ∷ [])))) ps) (arity-is : n ≡ get_or arity r 0) (rule : r ≤ 15)
         (room : m.at.state.props + 1 ≤ length m.forms) (space : m.at.tokens + 5 ≤ length m.tokens) where
-      given_meets : (v : Bool) (g : Form) (a : Result Formed Why) → Comes (whether v g (used m)) m.at.state.props fs m.forms t a → ((f : Formed) → a ≡ Ok f → u ≡ sets m.tokens m.at.tokens (0 ∷ r ∷ p ∷ q ∷ z ∷ []))
-          → Meets 1 0 6 b m fs (out_of t m.binds m.base u (inferred_of m.at n k a)) (must v premise_missing k (out (derived g (infer r ps)) (remaining m)))
+      given_meets : (v : Bool) (g : Form) (a : Result Formed Why) → Comes (whether v g (used m)) m.at.state.props fs m.forms t a → ((f : Formed) → a ≡ Ok f → at' ≡ progress (counters f.size m.at.state.bindings m.at.state.remaining.0) (m.at.tokens + 2 + n)) → ((f : Formed) → a ≡ Ok f → u ≡ sets m.tokens m.at.tokens (0 ∷ r ∷ p ∷ q ∷ z ∷ []))
+          → Meets 1 0 6 b m fs (out_of (mk t m.binds m.base u at') (inferred_of k a)) (must v premise_missing k (out (derived g (infer r ps)) (remaining m)))
       unfolding whether must inferred_of Meets Tells
-      given_meets true g a C told =
+      given_meets true g a C now told =
           let us = (whether true g (used m)).words in
           let w : take (length us) t ≡ us = ap (take (length us)) C.words ∙ take_front us m.forms in
           let i = C.is _ refl in
@@ -245,7 +244,7 @@ module _ (s : Shared) (m : M) (y b n r : ℕ) where
           let parts : 0 ∷ (r ∷ (p ∷ (q ∷ (z ∷ [])))) ≡ (0 ∷ (r ∷ ns)) ++ drop n (p ∷ (q ∷ (z ∷ []))) = ap (λ (x : List ℕ). 0 ∷ (r ∷ x)) (sym (take-append-drop n (p ∷ (q ∷ (z ∷ []))))) in
           let there : take (m.at.tokens + 2 + n) u ≡ take m.at.tokens m.tokens ++ (0 ∷ (r ∷ ns)) =
           ap (take (m.at.tokens + 2 + n)) (W ∙ ap (sets m.tokens m.at.tokens) parts) ∙ take_run (0 ∷ (r ∷ ns)) (drop n (p ∷ (q ∷ (z ∷ [])))) m.tokens m.at.tokens (m.at.tokens + 2 + n) (omega arith) (omega arith) in
-          rw C.answer (
+          rw (C.answer, now _ C.answer) (
             C.more,
             0 ∷ (r ∷ ns),
             record {
@@ -261,19 +260,19 @@ module _ (s : Shared) (m : M) (y b n r : ℕ) where
             (ns, refl, names_more fs C.more ns ps names, l ∙ arity-is, omega arith),
             refl,
           )
-      given_meets false g a C told = rw C.answer (refl, refl)
+      given_meets false g a C now told = rw C.answer (refl, refl)
 
       ruled_meets : (R : Ruled) (β : List Form) (a : Result Formed Why) → Alike β (base_of fs m.base b) → Comes (outcome R (base_of fs m.base b) (used m)) m.at.state.props fs m.forms t a
-          → ((f : Formed) → a ≡ Ok f → u ≡ sets m.tokens m.at.tokens (0 ∷ r ∷ p ∷ q ∷ z ∷ [])) → Meets 1 0 6 b m fs (out_of t m.binds m.base u (inferred_of m.at n k a)) (inferred R r ps β k (remaining m))
+          → ((f : Formed) → a ≡ Ok f → at' ≡ progress (counters f.size m.at.state.bindings m.at.state.remaining.0) (m.at.tokens + 2 + n)) → ((f : Formed) → a ≡ Ok f → u ≡ sets m.tokens m.at.tokens (0 ∷ r ∷ p ∷ q ∷ z ∷ [])) → Meets 1 0 6 b m fs (out_of (mk t m.binds m.base u at') (inferred_of k a)) (inferred R r ps β k (remaining m))
       unfolding outcome inferred inferred_of Meets
-      ruled_meets misshapen β a h C told = rw C.answer (refl, refl)
-      ruled_meets (gives premises g) β a h C told =
-          rw (members_alike β (base_of fs m.base b) h premises) (given_meets (members premises (base_of fs m.base b)) g a C told)
+      ruled_meets misshapen β a h C now told = rw C.answer (refl, refl)
+      ruled_meets (gives premises g) β a h C now told =
+          rw (members_alike β (base_of fs m.base b) h premises) (given_meets (members premises (base_of fs m.base b)) g a C now told)
 
-    pub rule_applied : (s₀ : Shared) (c p q z : ℕ) (t u : List ℕ) (o : Result (ℕ × Progress) Refusal) → Applicable s₀ m (Rule r) y b n → c ≡ get_or arity r 0 → n ≡ c → Some (p, q, z) ≡ taken_at m.binds y n 0 0 0
-        → Inferred m.at b r n p q z k m.forms t m.base m.tokens u o → Applying s d (Rule r) y b n k m (out_of t m.binds m.base u o)
+    pub rule_applied : (c p q z : ℕ) (t u : List ℕ) (at' : Progress) (o : Result ℕ Refusal) → Applicable s m (Rule r) y b n → c ≡ get_or arity r 0 → n ≡ c → Some (p, q, z) ≡ taken_at m.binds y n 0 0 0
+        → Inferred m.at at' b r n p q z k m.forms t m.base m.tokens u o → Applying s d (Rule r) y b n k m (out_of (mk t m.binds m.base u at') o)
     unfolding Takes
-    rule_applied s₀ c p q z t u o a e h i I = record {
+    rule_applied c p q z t u at' o a e h i I = record {
       meets = λ x fs X vs β S st l.
           let K : Takes fs vs (Some (p, q, z)) = subst (Takes fs vs) (sym i) (taken_so x fs X vs β S st l (h ∙ e)) in
           let T = S.world.legible.table in
@@ -283,5 +282,5 @@ module _ (s : Shared) (m : M) (y b n r : ℕ) where
           let C₁ = subst (λ (Q : Ruled). Comes (outcome Q (base_of fs m.base b) (used m)) m.at.state.props fs m.forms t I.answer) (K.4 r) C in
           let names = subst (λ (j : ℕ). Names fs (take j (p ∷ (q ∷ (z ∷ [])))) K.0) l K.2 in
           rw (is.0, applied_is (deduce x.phrases d) β vs (remaining m) l (h ∙ e), K.1 k _, I.outcome)
-          (ruled_meets p q z t u fs K.0 T names (h ∙ e) is.1 (omega arith) (omega arith) (ruled r K.0) β I.answer S.based.alike C₁ I.told);
+          (ruled_meets p q z t u at' fs K.0 T names (h ∙ e) is.1 (omega arith) (omega arith) (ruled r K.0) β I.answer S.based.alike C₁ I.now I.told);
     }

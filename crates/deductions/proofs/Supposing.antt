@@ -1,5 +1,5 @@
 -- A deduction under a hypothesis, assume and suppose-absurd: one law for each return.
-use Rattle.std.specs.Prelude.{Some, Result, Ok, Err}
+use Rattle.std.specs.Prelude.{Some, Result, Err}
 use mathlib.Core.Path.{◌≡◌, refl, sym, ap, subst, ◌∙◌}
 use mathlib.Core.List.{List, [], ◌∷◌, ◌++◌, append_assoc, append-nil}
 use Prim.Native.Nat.{ℕ, ◌+◌, ◌≤◌, ◌<◌}
@@ -38,8 +38,7 @@ use Rattle.expressions.proofs.Growth.{grew_none as grew_e_none}
 use Rattle.expressions.proofs.Steps.{trees_few}
 use Rattle.language.specs.declared.refusal.Refusal.{Refusal}
 use Rattle.language.specs.declared.refusal.Why.TheVariants.{NotFalse}
-use Rattle.deductions.specs.declared.Progress.{Progress}
-use Rattle.deductions.specs.Machine.{M, mk, progress, inner, remaining, bound, moved, MOut, concluded, refused, out_of, Implied, tollens, Refutation, Refuted}
+use Rattle.deductions.specs.Machine.{M, mk, progress, inner, remaining, bound, moved, MOut, concluded, refused, out_of, Progress, tollens, Refutation, Refuted}
 use Rattle.deductions.specs.Asked.{In, Setting, Ready, Hypothetical}
 use Rattle.deductions.specs.Meets.{Grew, Meets, Deduced, Stepped, Supposing}
 use Rattle.deductions.proofs.Sorts.{Otherwise, proposition, no_proposition}
@@ -366,8 +365,8 @@ module _ (s : Shared) (d env b k f j : ℕ) (m : M) (H : Runs s d env b k f j m 
       let lp = z.is_hypothesis.low in let lq = z.concludes.low in
       (omega arith, omega arith, omega arith)
 
-  pub assume_is : (q : ℕ) (m₃ : M) (w : List ℕ) (c : ℕ × Progress) → Ready (In k) s m env b 4 4 11 1 → Supposing s d env b p j (moved m t u st) (concluded q m₃) → Implied p q m₃.at m₃.forms w c
-      → Stepped s d env b k m (out_of w m₃.binds m₃.base m₃.tokens (Ok c))
+  pub assume_is : (q : ℕ) (m₃ : M) (w : List ℕ) (c : Formed) → Ready (In k) s m env b 4 4 11 1 → Supposing s d env b p j (moved m t u st) (concluded q m₃) → Interned (code (bin_r cond p q)) m₃.at.state.props m₃.forms w c
+      → Stepped s d env b k m (concluded c.at (formed_on m₃ w c))
   unfolding formed Below
   assume_is q m₃ w c r U I = record {
     meets = λ x fs e β S l.
@@ -376,14 +375,13 @@ module _ (s : Shared) (d env b k f j : ℕ) (m : M) (H : Runs s d env b k f j m 
         let T = z.setting.world.legible.table in
         let g₀ = (under_still q m₃ U r.text r.formed r.bindings r.basis r.setting r.row).grew.inner.forms_long in
         let small = r.room.inner.small in
-        let F = forms b m₃ w I.formed (fs ++ z.more) (bin_r cond p q) T (z.is_hypothesis.low, z.concludes.low) asks.0 (omega arith) I.interned in
+        let F = forms b m₃ w c (fs ++ z.more) (bin_r cond p q) T (z.is_hypothesis.low, z.concludes.low) asks.0 (omega arith) I in
         let tree_is : bin cond (tree (fs ++ z.more) p) (tree (fs ++ z.more) q) ≡ bin cond z.hypothesis z.derived.conclusion = rw (z.is_hypothesis.tree, z.concludes.tree) in
-        let G = grew_then 0 0 3 b 1 0 1 b 4 4 11 m m₃ (formed_on m₃ w I.formed) fs z.more F.more z.told [] z.grew F.grew (omega arith) (omega arith) (omega arith) (le_refl b) in
-        rw I.outcome
-        (subst (Meets 4 4 11 b m fs (concluded I.formed.at (formed_on m₃ w I.formed))) (sym z.is)
-        (concluded_by 4 4 11 b m (formed_on m₃ w I.formed) fs (z.more ++ F.more) ((fs ++ z.more) ++ F.more) (z.told ++ []) I.formed.at (bin cond z.hypothesis z.derived.conclusion) z.derived.proof
-        (append_assoc fs z.more F.more) G (subst (Is ((fs ++ z.more) ++ F.more) I.formed.at) tree_is F.is)
-        (rw (append-nil z.told) (tells_more (fs ++ z.more) F.more z.derived.proof z.told z.tells))));
+        let G = grew_then 0 0 3 b 1 0 1 b 4 4 11 m m₃ (formed_on m₃ w c) fs z.more F.more z.told [] z.grew F.grew (omega arith) (omega arith) (omega arith) (le_refl b) in
+        subst (Meets 4 4 11 b m fs (concluded c.at (formed_on m₃ w c))) (sym z.is)
+        (concluded_by 4 4 11 b m (formed_on m₃ w c) fs (z.more ++ F.more) ((fs ++ z.more) ++ F.more) (z.told ++ []) c.at (bin cond z.hypothesis z.derived.conclusion) z.derived.proof
+        (append_assoc fs z.more F.more) G (subst (Is ((fs ++ z.more) ++ F.more) c.at) tree_is F.is)
+        (rw (append-nil z.told) (tells_more (fs ++ z.more) F.more z.derived.proof z.told z.tells)));
   }
 
 -- suppose-absurd
@@ -465,9 +463,9 @@ module _ (b : ℕ) (m : M) (fs : List Form) (p : ℕ) (P : Form) (t u w : List �
           let H = forms b (formed_on (formed_on m t r) u q) w v ((fs ++ F.more) ++ G.more) (neg_r p) G.table f.low (omega arith) (omega arith) I in
           subst (Forms b (formed_on (formed_on m t r) u q) w v ((fs ++ F.more) ++ G.more)) (ap neg f.tree) H
 
-three_refute : (b : ℕ) (m : M) (fs : List Form) (p : ℕ) (P : Form) (w u₀ y : List ℕ) (c : Result (ℕ × Progress) Refusal) → Table (used m) fs → Is fs p P → m.at.state.props + 3 ≤ length m.forms → length m.forms ≤ 16384 → (I : Refutation p m.at m.forms w u₀ y c)
+three_refute : (b : ℕ) (m : M) (fs : List Form) (p : ℕ) (P : Form) (w u₀ y : List ℕ) (at' : Progress) (c : Result ℕ Refusal) → Table (used m) fs → Is fs p P → m.at.state.props + 3 ≤ length m.forms → length m.forms ≤ 16384 → (I : Refutation p m.at at' m.forms w u₀ y c)
     → Three b m (formed_on (formed_on (formed_on m I.once I.implied) I.twice I.absurd) w I.denied) fs I.implied.at I.absurd.at I.denied.at (bin cond P falsum) (neg falsum) (neg P)
-three_refute b m fs p P w u₀ y c T i room small I =
+three_refute b m fs p P w u₀ y at' c T i room small I =
     go (implies b m fs p P I.once I.twice w I.implied I.absurd I.denied T i room small I.first)
   where
     go : (F : Forms b m I.once I.implied fs (bin cond P falsum)) → Three b m (formed_on (formed_on (formed_on m I.once I.implied) I.twice I.absurd) w I.denied) fs I.implied.at I.absurd.at I.denied.at (bin cond P falsum) (neg falsum) (neg P)
@@ -517,9 +515,9 @@ module _ (s : Shared) (d env b k f j : ℕ) (m : M) (H : Runs s d env b k f j m 
       let lp = z.is_hypothesis.low in
       (omega arith, R.inner.small, omega arith, R.short, omega arith)
 
-  module _ (q : ℕ) (m₃ : M) (w y : List ℕ) (c : Result (ℕ × Progress) Refusal) (r : Ready (In k) s m env b 4 4 11 1) (U : Supposing s d env b p j begun (concluded q m₃)) (long : length y ≡ length m₃.tokens) where
+  module _ (q : ℕ) (m₃ : M) (w y : List ℕ) (at' : Progress) (c : Result ℕ Refusal) (r : Ready (In k) s m env b 4 4 11 1) (U : Supposing s d env b p j begun (concluded q m₃)) (long : length y ≡ length m₃.tokens) where
     abbrev after_it : MOut
-    after_it = out_of w m₃.binds m₃.base y c
+    after_it = out_of (mk w m₃.binds m₃.base y at') c
 
     module _ (x : Text) (fs : List Form) (e : Env) (β : List Form) (S : Setting x fs e β s m env b) (l : In k x) where
       abbrev Z : Under s d env b k f j m (refuting k) H t u st v A p vp (1 ∷ []) begun hyp_one refl q m₃ x fs e β
@@ -540,19 +538,19 @@ module _ (s : Shared) (d env b k f j : ℕ) (m : M) (H : Runs s d env b k f j m 
       unfolding must Meets
       other_meets h g = rw (g, tested, ne_eqb q 1 h) (refl, refl)
 
-      false_meets : q ≡ 1 → Refutation p m₃.at m₃.forms w m₃.tokens y c → Meets 4 4 11 b m fs after_it (refuting k Z.hypothesis Z.derived (remaining m₃))
+      false_meets : q ≡ 1 → Refutation p m₃.at at' m₃.forms w m₃.tokens y c → Meets 4 4 11 b m fs after_it (refuting k Z.hypothesis Z.derived (remaining m₃))
       unfolding must
       false_meets h I =
           let asks = refute_asks q m₃ r U in
-          rw (I.outcome, tested, eq-eqb q 1 h)
+          rw (I.outcome, I.now, tested, eq-eqb q 1 h)
           (refute_meets b m m₃ (formed_on (formed_on (formed_on m₃ I.once I.implied) I.twice I.absurd) w I.denied) fs Z.more Z.told Z.hypothesis Z.derived.proof I.implied.at I.absurd.at I.denied.at
-          (m₃.at.tokens + 7) y Z.grew Z.tells (three_refute b m₃ (fs ++ Z.more) p Z.hypothesis w m₃.tokens y c table Z.is_hypothesis asks.0 asks.1 I) refl refl refl I.told long)
+          (m₃.at.tokens + 7) y Z.grew Z.tells (three_refute b m₃ (fs ++ Z.more) p Z.hypothesis w m₃.tokens y at' c table Z.is_hypothesis asks.0 asks.1 I) refl refl refl I.told long)
 
-      by_test : Dec (q ≡ 1) → Refuted p q k m₃.at m₃.forms w m₃.tokens y c → Meets 4 4 11 b m fs after_it (refuting k Z.hypothesis Z.derived (remaining m₃))
+      by_test : Dec (q ≡ 1) → Refuted p q k m₃.at at' m₃.forms w m₃.tokens y c → Meets 4 4 11 b m fs after_it (refuting k Z.hypothesis Z.derived (remaining m₃))
       by_test (yes h) I = false_meets h (I.false h)
       by_test (no h) I = other_meets h (I.other h)
 
-    pub suppose_is : Refuted p q k m₃.at m₃.forms w m₃.tokens y c → Stepped s d env b k m after_it
+    pub suppose_is : Refuted p q k m₃.at at' m₃.forms w m₃.tokens y c → Stepped s d env b k m after_it
     suppose_is I = record {
       meets = λ x fs e β S l. subst (Meets 4 4 11 b m fs after_it) (sym (Z x fs e β S l).is) (by_test x fs e β S l (dec_eq q 1) I);
     }

@@ -15,7 +15,12 @@ use Rattle.bindings.specs.Numbers.{value_at, next_at}
 use Rattle.rules.specs.Applied.{Ruling}
 use Rattle.expressions.specs.declared.State.{State}
 use Rattle.expressions.specs.Machine.{counters, mk as mkE, M as ME}
-use Rattle.deductions.specs.declared.Progress.{Progress}
+use Rattle.deductions.specs.declared.Run.{Run}
+
+-- what is formed, bound and left of the budget, and how many tokens are written
+pub record Progress : Type 0 where
+  pub state : State
+  pub tokens : ℕ
 
 -- the four buffers that change, and how far the run is
 pub record M : Type 0 where
@@ -30,6 +35,23 @@ mk f b s t at = record { forms = f; binds = b; base = s; tokens = t; at = at }
 
 abbrev pub progress : State → ℕ → Progress
 progress st n = record { state = st; tokens = n }
+
+-- what a run changes
+abbrev pub run : Run → M
+run x = mk x.machine.forms.now x.machine.binds.now x.base.now x.tokens.now (progress x.machine.state x.written)
+
+-- both go over the same lent buffers, which are as long as they were, and read the same phrases and patterns
+pub record Same (x y : Run) : Type 0 where
+  pub forms : y.machine.forms.ghost_name ≡ x.machine.forms.ghost_name
+  pub binds : y.machine.binds.ghost_name ≡ x.machine.binds.ghost_name
+  pub base : y.base.ghost_name ≡ x.base.ghost_name
+  pub tokens : y.tokens.ghost_name ≡ x.tokens.ghost_name
+  pub phrases : y.machine.phrases ≡ x.machine.phrases
+  pub patterns : y.machine.patterns ≡ x.machine.patterns
+  pub forms_long : length y.machine.forms.now ≡ length x.machine.forms.now
+  pub binds_long : length y.machine.binds.now ≡ length x.machine.binds.now
+  pub base_long : length y.base.now ≡ length x.base.now
+  pub tokens_long : length y.tokens.now ≡ length x.tokens.now
 
 -- what expressions know of it
 abbrev pub inner : M → ME
@@ -58,27 +80,27 @@ pub data MOut : Type 0 where
   concluded : ℕ → M → MOut
   refused : ℕ → ℕ → MOut
 
-abbrev pub out_of : List ℕ → List ℕ → List ℕ → List ℕ → Result (ℕ × Progress) Refusal → MOut
-out_of f b s t (Ok p) = concluded p.0 (mk f b s t p.1)
-out_of f b s t (Err r) = refused (number_of r.0) r.1
+abbrev pub out_of : M → Result ℕ Refusal → MOut
+out_of m (Ok p) = concluded p m
+out_of m (Err r) = refused (number_of r.0) r.1
 
 -- a phrase of either class that has run: its value, its lemma, and what it leaves
 pub data MOperand : Type 0 where
   got : Value → Option ℕ → M → MOperand
   lacking : ℕ → ℕ → MOperand
 
-abbrev pub operand_of : List ℕ → List ℕ → List ℕ → List ℕ → Result (Value × Option ℕ × Progress) Refusal → MOperand
-operand_of f b s t (Ok p) = got p.0 p.1 (mk f b s t p.2)
-operand_of f b s t (Err r) = lacking (number_of r.0) r.1
+abbrev pub operand_of : M → Result (Value × Option ℕ) Refusal → MOperand
+operand_of m (Ok p) = got p.0 p.1 m
+operand_of m (Err r) = lacking (number_of r.0) r.1
 
 -- arguments that have run: the start of their chain, the base's count, and what they leave
 pub data MArgs : Type 0 where
   pushed : ℕ → ℕ → M → MArgs
   stopped : ℕ → ℕ → MArgs
 
-abbrev pub args_of : List ℕ → List ℕ → List ℕ → List ℕ → Result (ℕ × ℕ × Progress) Refusal → MArgs
-args_of f b s t (Ok p) = pushed p.0 p.1 (mk f b s t p.2)
-args_of f b s t (Err r) = stopped (number_of r.0) r.1
+abbrev pub args_of : M → Result (ℕ × ℕ) Refusal → MArgs
+args_of m (Ok p) = pushed p.0 p.1 m
+args_of m (Err r) = stopped (number_of r.0) r.1
 
 -- a lemma on the base's stack: what the buffer then holds, and how many numbers join
 abbrev pub joined_at : List ℕ → ℕ → Option ℕ → List ℕ
@@ -112,22 +134,17 @@ unfoldable pub Long : List ℕ → ℕ → ℕ → Type 0
 Long t e zero = Unit {0}
 Long t e (suc n) = (0 < e) × (4 * (e - 1) + 4 ≤ length t) × Long t (next_at t (e - 1)) n
 
--- a conditional formed in the table
-pub record Implied (p q : ℕ) (at : Progress) (t₀ t : List ℕ) (x : ℕ × Progress) : Type 0 where
-  pub formed : Formed
-  pub outcome : x ≡ (formed.at, progress (counters formed.size at.state.bindings at.state.remaining.0) at.tokens)
-  pub interned : Interned (code (bin_r cond p q)) at.state.props t₀ t formed
-
 -- a rule's answer as a conclusion
-unfoldable pub inferred_of : Progress → ℕ → ℕ → Result Formed Why → Result (ℕ × Progress) Refusal
-inferred_of at n k (Ok f) = Ok (f.at, progress (counters f.size at.state.bindings at.state.remaining.0) (at.tokens + 2 + n))
-inferred_of at n k (Err w) = Err (record { 0 = w; 1 = k })
+unfoldable pub inferred_of : ℕ → Result Formed Why → Result ℕ Refusal
+inferred_of k (Ok f) = Ok f.at
+inferred_of k (Err w) = Err (record { 0 = w; 1 = k })
 
 -- what rule r gives of n arguments x, y and z, and the tokens that tell it
-pub record Inferred (at : Progress) (b r n x y z k : ℕ) (t₀ t s u₀ u : List ℕ) (c : Result (ℕ × Progress) Refusal) : Type 0 where
+pub record Inferred (at at' : Progress) (b r n x y z k : ℕ) (t₀ t s u₀ u : List ℕ) (c : Result ℕ Refusal) : Type 0 where
   pub answer : Result Formed Why
   pub ruling : Ruling t₀ at.state.props s b r x y z t answer
-  pub outcome : c ≡ inferred_of at n k answer
+  pub outcome : c ≡ inferred_of k answer
+  pub now : (f : Formed) → answer ≡ Ok f → at' ≡ progress (counters f.size at.state.bindings at.state.remaining.0) (at.tokens + 2 + n)
   pub told : (f : Formed) → answer ≡ Ok f → u ≡ sets u₀ at.tokens (0 ∷ r ∷ x ∷ y ∷ z ∷ [])
 
 -- the tokens that follow a hypothesis' proof where it is refuted: false-elim, then modus-tollens at x and y
@@ -135,7 +152,7 @@ abbrev pub tollens : ℕ → ℕ → List ℕ
 tollens x y = 1 ∷ 0 ∷ 15 ∷ 0 ∷ 2 ∷ x ∷ y ∷ []
 
 -- p refuted: p⇒false, ¬false and ¬p are formed, and the tokens are written
-pub record Refutation (p : ℕ) (at : Progress) (t₀ t u₀ u : List ℕ) (c : Result (ℕ × Progress) Refusal) : Type 0 where
+pub record Refutation (p : ℕ) (at at' : Progress) (t₀ t u₀ u : List ℕ) (c : Result ℕ Refusal) : Type 0 where
   pub implied : Formed
   pub absurd : Formed
   pub denied : Formed
@@ -145,22 +162,23 @@ pub record Refutation (p : ℕ) (at : Progress) (t₀ t u₀ u : List ℕ) (c : 
   pub second : Interned (code (neg_r 1)) implied.size once twice absurd
   pub third : Interned (code (neg_r p)) absurd.size twice t denied
   pub told : take (at.tokens + 7) u ≡ take at.tokens u₀ ++ tollens implied.at absurd.at
-  pub outcome : c ≡ Ok (denied.at, progress (counters denied.size at.state.bindings at.state.remaining.0) (at.tokens + 7))
+  pub outcome : c ≡ Ok denied.at
+  pub now : at' ≡ progress (counters denied.size at.state.bindings at.state.remaining.0) (at.tokens + 7)
 
 -- p refuted where q is false, else the refusal
-pub record Refuted (p q k : ℕ) (at : Progress) (t₀ t u₀ u : List ℕ) (c : Result (ℕ × Progress) Refusal) : Type 0 where
-  pub false : q ≡ 1 → Refutation p at t₀ t u₀ u c
+pub record Refuted (p q k : ℕ) (at at' : Progress) (t₀ t u₀ u : List ℕ) (c : Result ℕ Refusal) : Type 0 where
+  pub false : q ≡ 1 → Refutation p at at' t₀ t u₀ u c
   pub other : (q ≡ 1 → ⊥) → c ≡ Err (record { 0 = NotFalse; 1 = k })
 
 -- an announced value against the conclusion q
-unfoldable pub compared_by : Bool → State → ℕ → ℕ → ℕ → Result (ℕ × Progress) Refusal
-compared_by true st n q k = Ok (q, progress st n)
-compared_by false st n q k = Err (record { 0 = AnnouncedDiffers; 1 = k })
+unfoldable pub compared_by : Bool → ℕ → ℕ → Result ℕ Refusal
+compared_by true q k = Ok q
+compared_by false q k = Err (record { 0 = AnnouncedDiffers; 1 = k })
 
-unfoldable pub compared_of : Value → State → ℕ → ℕ → ℕ → Result (ℕ × Progress) Refusal
+unfoldable pub compared_of : Value → ℕ → ℕ → Result ℕ Refusal
 unfolding compared_by
-compared_of (Prop p) st n q k = compared_by (eqb p q) st n q k
-compared_of (Constructor c) st n q k = Err (record { 0 = WrongKind; 1 = k })
-compared_of (Rule r) st n q k = Err (record { 0 = WrongKind; 1 = k })
-compared_of (Function c) st n q k = Err (record { 0 = WrongKind; 1 = k })
-compared_of (Method c) st n q k = Err (record { 0 = WrongKind; 1 = k })
+compared_of (Prop p) q k = compared_by (eqb p q) q k
+compared_of (Constructor c) q k = Err (record { 0 = WrongKind; 1 = k })
+compared_of (Rule r) q k = Err (record { 0 = WrongKind; 1 = k })
+compared_of (Function c) q k = Err (record { 0 = WrongKind; 1 = k })
+compared_of (Method c) q k = Err (record { 0 = WrongKind; 1 = k })

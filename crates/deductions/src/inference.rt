@@ -1,67 +1,89 @@
 // A rule applied to arguments that are bound: their count and kind, the rule's answer, and its tokens.
 ghost use Rattle.std.specs.Prelude.{◌≡◌, ℕ, ◌+◌, ◌≤◌, length};
 ghost use Rattle.bindings.specs.declared.Value.TheVariants.{Rule};
-ghost use Rattle.rules.specs.Applied.{Ready as RuleReady};
-ghost use Rattle.expressions.specs.Machine.{Shared};
-ghost use Rattle.deductions.specs.Machine.{mk, out_of, taken_at, Long, Inferred};
+ghost use Rattle.rules.specs.Applied.{Ready as RuleReady, Ruling};
+ghost use Rattle.expressions.specs.Machine.{reads, Same as SameMachine};
+ghost use Rattle.deductions.specs.Machine.{run, Same, out_of, taken_at, Long, Inferred};
 ghost use Rattle.deductions.specs.Asked.{Applicable};
 ghost use Rattle.deductions.specs.Meets.{Applying};
 
-use crate::{Progress, Site};
+use crate::{Run, Site};
 use bindings::Value;
-use expressions::State;
+use expressions::Machine;
+use forms::Formed;
 use language::{Refusal, Why};
 
-// What rule r makes of n arguments, which are bound where it runs: the count first, then that all are propositions, then the rule itself.
-pub(crate) fn infer(
-    forms: &mut [u32],
-    binds: &[u32],
-    base: &[u32],
-    tokens: &mut [u32],
-    at: Progress,
-    site: Site,
-    r: usize,
-    n: usize,
-    k: usize,
-) -> Result<(usize, Progress), Refusal>
-    requires { (s : Shared) × Applicable s (mk forms.old binds.now base.now tokens.old at) (Rule r) site.env site.base n }
-    ensures { (s : Shared) (d : ℕ) → Applying s d (Rule r) site.env site.base n k (mk forms.old binds.now base.now tokens.old at) (out_of forms.new binds.now base.now tokens.new result) }
-{
-    if n != language::arguments(r) {
-        return Err(Refusal(Why::WrongCount, k));
+impl<'a> Run<'a> {
+    // What rule r makes of n arguments, which are bound where it runs: the count first, then that all are propositions, then the rule itself.
+    pub(crate) fn infer(
+        &mut self,
+        site: Site,
+        r: usize,
+        n: usize,
+        k: usize,
+    ) -> Result<usize, Refusal>
+        requires { Applicable (reads self.old.machine) (run self.old) (Rule r) site.env site.base n }
+        ensures same { Same self.old self.new }
+        ensures applying { (d : ℕ) → Applying (reads self.old.machine) d (Rule r) site.env site.base n k (run self.old) (out_of (run self.new) result) }
+    {
+        if n != language::arguments(r) {
+            return Err(Refusal(Why::WrongCount, k));
+        }
+        let Some((x, y, z)) = self.taken(site.env, n) else {
+            return Err(Refusal(Why::WrongKind, k));
+        };
+        self.conclude(site.base, r, n, x, y, z, k)
     }
-    let Some((x, y, z)) = gather(binds, site.env, n, 0, 0, 0) else {
-        return Err(Refusal(Why::WrongKind, k));
-    };
-    conclude(forms, base, tokens, at, site.base, r, n, x, y, z, k)
+
+    // So many arguments, bound at e; all must be propositions.
+    fn taken(&self, e: usize, n: usize) -> Option<(usize, usize, usize)>
+        requires { Long self.now.machine.binds.now e n }
+        ensures { result ≡ taken_at self.now.machine.binds.now e n 0 0 0 }
+    {
+        gather(self.machine.binds, e, n, 0, 0, 0)
+    }
+
+    // Rule r at its n arguments x, y and z: the conclusion, and the tokens of the rule; or that shapes or premises fail.
+    #[tactic(auto, unfolding(crate::specs::Machine::inferred_of))]
+    fn conclude(
+        &mut self,
+        b: usize,
+        r: usize,
+        n: usize,
+        x: usize,
+        y: usize,
+        z: usize,
+        k: usize,
+    ) -> Result<usize, Refusal>
+        requires { RuleReady self.old.machine.forms.now self.old.machine.state.props self.old.base.now b x y z × (self.old.written + 5 ≤ length self.old.tokens.now) × (length self.old.tokens.now ≤ 16384) × (n ≤ 3) × (r ≤ 15) }
+        ensures same { Same self.old self.new × (self.new.machine.binds.now ≡ self.old.machine.binds.now) × (self.new.base.now ≡ self.old.base.now) }
+        ensures inferred { Inferred (run self.old).at (run self.new).at b r n x y z k self.old.machine.forms.now self.new.machine.forms.now self.old.base.now self.old.tokens.now self.new.tokens.now result }
+    {
+        let base = &mut *self.base;
+        let machine = &mut self.machine;
+        let made = ruled(machine, base, b, r, x, y, z).map_err(|why| Refusal(why, k))?;
+        self.machine.state.props = made.size;
+        self.written = tokens::rule(self.tokens, self.written, r, n, x, y, z);
+        Ok(made.at)
+    }
 }
 
-// Rule r at its n arguments x, y and z: the conclusion, and the tokens of the rule; or that shapes or premises fail.
-#[tactic(auto, unfolding(crate::specs::Machine::inferred_of))]
-fn conclude(
-    forms: &mut [u32],
+// Rule r at the arguments x, y and z in the base's first b numbers.
+fn ruled(
+    machine: &mut Machine,
     base: &[u32],
-    tokens: &mut [u32],
-    at: Progress,
     b: usize,
     r: usize,
-    n: usize,
     x: usize,
     y: usize,
     z: usize,
-    k: usize,
-) -> Result<(usize, Progress), Refusal>
-    requires { RuleReady forms.old at.state.props base.now b x y z × (at.tokens + 5 ≤ length tokens.old) × (length tokens.old ≤ 16384) × (n ≤ 3) × (r ≤ 15) }
-    ensures { Inferred at b r n x y z k forms.old forms.new base.now tokens.old tokens.new result }
+) -> Result<Formed, Why>
+    requires { RuleReady machine.old.forms.now machine.old.state.props base.now b x y z }
+    ensures same { SameMachine machine.old machine.new × (machine.new.binds.now ≡ machine.old.binds.now) × (machine.new.state ≡ machine.old.state) }
+    ensures ruling { Ruling machine.old.forms.now machine.old.state.props base.now b r x y z machine.new.forms.now result }
 {
-    let props = at.state.props;
-    let made = rules::apply(forms, props, base, b, r, x, y, z).map_err(|why| Refusal(why, k))?;
-    let state = State {
-        props: made.size,
-        ..at.state
-    };
-    let m = tokens::rule(tokens, at.tokens, r, n, x, y, z);
-    Ok((made.at, Progress { state, tokens: m }))
+    let props = machine.state.props;
+    rules::apply(machine.forms, props, base, b, r, x, y, z)
 }
 
 // So many arguments read off the chain at e, the last first, before x and y and z; all must be propositions.

@@ -1,6 +1,7 @@
 -- The public functions of `forms`: each by the equations that its contract has.
 use mathlib.Core.Path.{refl, sym, ◌∙◌}
 use Rattle.forms.proofs.Interning.{interned_once}
+use Rattle.forms.proofs.KindNumbers.{kind_once}
 use Rattle.determined.specs.Once.{Once}
 use Rattle.determined.specs.Forms.{Forms}
 use Rattle.determined.proofs.Left.{pair}
@@ -22,4 +23,8 @@ forms = record {
   kind_of = λ κs a z z' ws ws' x y. (x ∙ sym y, refl);
   left_of = λ κs a z z' ws ws' x y. (x ∙ sym y, refl);
   right_of = λ κs a z z' ws ws' x y. (x ∙ sym y, refl);
+  kind_kind_of = λ κs a z z' ws ws' x y. (x ∙ sym y, refl);
+  kind_kind_number = λ κs a z z' ws ws' x y. (x ∙ sym y, refl);
+  kind_kind_of_word = λ κs a z z' ws ws' x y. (kind_once _ _ (x ∙ sym y), refl);
+  kind_kind_word = λ κs a z z' ws ws' x y. (x.0 ∙ sym y.0, refl);
 }

@@ -17,3 +17,7 @@ pub record Forms : Type 0 where
   pub kind_of : Once forms.kind_of.Kinds.ps forms.kind_of.Kinds.r forms.kind_of.Reads.Learnt
   pub left_of : Once forms.left_of.Kinds.ps forms.left_of.Kinds.r forms.left_of.Reads.Learnt
   pub right_of : Once forms.right_of.Kinds.ps forms.right_of.Kinds.r forms.right_of.Reads.Learnt
+  pub kind_kind_of : Once forms.kind.Kind.of.Kinds.ps forms.kind.Kind.of.Kinds.r forms.kind.Kind.of.Reads.Learnt
+  pub kind_kind_number : Once forms.kind.Kind.number.Kinds.ps forms.kind.Kind.number.Kinds.r forms.kind.Kind.number.Reads.Learnt
+  pub kind_kind_of_word : Once forms.kind.Kind.of_word.Kinds.ps forms.kind.Kind.of_word.Kinds.r forms.kind.Kind.of_word.Reads.Learnt
+  pub kind_kind_word : Once forms.kind.Kind.word.Kinds.ps forms.kind.Kind.word.Kinds.r forms.kind.Kind.word.Reads.Learnt

@@ -17,7 +17,7 @@ use Rattle.language.specs.declared.refusal.Refusal.{Refusal}
 use Rattle.language.specs.declared.refusal.Why.TheVariants.{OutputShort}
 use Rattle.certificates.specs.declared.Written.{Written}
 use Rattle.certificates.specs.Certified.{Certified, Writes}
-use Rattle.deductions.specs.declared.Progress.{Progress}
+use Rattle.deductions.specs.Machine.{Progress}
 use Rattle.evaluator.specs.Door.{Gives}
 use Rattle.evaluator.specs.Parts.{Certifies}
 

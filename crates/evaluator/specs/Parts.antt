@@ -10,8 +10,7 @@ use Rattle.language.specs.declared.Accepted.{Accepted}
 use Rattle.language.specs.declared.refusal.Refusal.{Refusal}
 use Rattle.expressions.specs.Machine.{Shared, kind, counters}
 use Rattle.expressions.specs.Asked.{Text}
-use Rattle.deductions.specs.declared.Progress.{Progress}
-use Rattle.deductions.specs.Machine.{M, mk, progress, remaining}
+use Rattle.deductions.specs.Machine.{Progress, M, mk, progress, remaining}
 use Rattle.deductions.specs.Asked.{In, Setting, Ready}
 use Rattle.certificates.specs.Certified.{Writing}
 use Rattle.evaluator.specs.Door.{Gives}

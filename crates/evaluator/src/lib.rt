@@ -7,11 +7,12 @@ ghost use Rattle.std.specs.Prelude.{◌≡◌, true, not, map, ◌≤◌, length
 ghost use Rattle.language.specs.Answer.{answer};
 ghost use Rattle.language.specs.Doors.{evaluation_lengths, enough, wiped};
 ghost use Rattle.evaluator.specs.Door.{scratch, Gives, Evaluates};
-ghost use Rattle.expressions.specs.Machine.{shared};
-ghost use Rattle.evaluator.specs.Parts.{start, Rooted, Runs, Ending, Certifies};
+ghost use Rattle.expressions.specs.Machine.{reads};
+ghost use Rattle.deductions.specs.Machine.{run, progress};
+ghost use Rattle.evaluator.specs.Parts.{Rooted, Runs, Ending, Certifies};
 
-use deductions::{Progress, Site};
-use expressions::State;
+use deductions::{Run, Site};
+use expressions::{Machine, State};
 use language::{Accepted, Refusal, Remaining, Why, Work};
 use reader::Counts;
 
@@ -122,14 +123,14 @@ fn clear(
 }
 
 // The answer, in buffers of the fixed lengths.
-fn answer(
+fn answer<'a>(
     listing: &mut [u32],
-    forms: &mut [u32],
-    patterns: &mut [u32],
-    phrases: &mut [u32],
-    base: &mut [u32],
-    binds: &mut [u32],
-    tokens: &mut [u32],
+    forms: &'a mut [u32],
+    patterns: &'a mut [u32],
+    phrases: &'a mut [u32],
+    base: &'a mut [u32],
+    binds: &'a mut [u32],
+    tokens: &'a mut [u32],
     sheet: &[u8],
     budget: usize,
     out: &mut [u8],
@@ -138,66 +139,68 @@ fn answer(
     ensures { Gives (answer sheet.now budget (length out.old)) out.old result out.new }
 {
     let c = reader::read_sheet(listing, forms, patterns, phrases, base, sheet)?;
-    run(
-        listing, forms, base, binds, tokens, phrases, patterns, c, budget, out,
-    )
+    let state = State {
+        props: c.words,
+        bindings: 0,
+        remaining: Remaining(budget),
+    };
+    let machine = Machine {
+        forms,
+        binds,
+        state,
+        phrases,
+        patterns,
+    };
+    let mut root = Run {
+        machine,
+        base,
+        tokens,
+        written: 0,
+    };
+    run(&mut root, c, listing, out)
 }
 
 // The root, run in the sheet's base, and its certificate.
-fn run(
-    listing: &mut [u32],
-    forms: &mut [u32],
-    base: &mut [u32],
-    binds: &mut [u32],
-    tokens: &mut [u32],
-    phrases: &[u32],
-    patterns: &[u32],
-    c: Counts,
-    budget: usize,
-    out: &mut [u8],
-) -> Result<Accepted, Refusal>
-    requires { Rooted (shared phrases.now patterns.now) (start forms.old binds.old base.old tokens.old c.words budget) c.base c.root listing.old }
-    ensures { Runs (shared phrases.now patterns.now) (start forms.old binds.old base.old tokens.old c.words budget) c.base c.root out.old result out.new }
+fn run(root: &mut Run, c: Counts, listing: &mut [u32], out: &mut [u8]) -> Result<Accepted, Refusal>
+    requires { Rooted (reads root.old.machine) (run root.old) c.base c.root listing.old × (root.old.written ≡ 0) }
+    ensures { Runs (reads root.old.machine) (run root.old) c.base c.root out.old result out.new }
 {
-    let at = Progress {
-        state: State {
-            props: c.words,
-            bindings: 0,
-            remaining: Remaining(budget),
-        },
-        tokens: 0,
-    };
+    let budget = root.machine.state.remaining.0;
     let site = Site {
         base: c.base,
         env: 0,
         depth: NESTING,
     };
-    let (p, end) = deductions::deduce(
-        forms, binds, base, tokens, phrases, patterns, at, site, c.root,
-    )?;
-    certify(forms, tokens, listing, p, end, budget, out)
+    let p = root.deduce(site, c.root)?;
+    certify(root, listing, p, budget, out)
 }
 
 // The certificate of a run that has ended with the conclusion p, where the output has room for it.
 fn certify(
-    forms: &[u32],
-    tokens: &[u32],
+    run: &Run,
     listing: &mut [u32],
     p: usize,
-    end: Progress,
     budget: usize,
     out: &mut [u8],
 ) -> Result<Accepted, Refusal>
-    requires { Ending forms.now tokens.now listing.old p end budget }
-    ensures { Certifies forms.now tokens.now listing.old p end budget out.old result out.new }
+    requires { Ending run.now.machine.forms.now run.now.tokens.now listing.old p (progress run.now.machine.state run.now.written) budget }
+    ensures { Certifies run.now.machine.forms.now run.now.tokens.now listing.old p (progress run.now.machine.state run.now.written) budget out.old result out.new }
 {
-    let words = end.state.props;
-    let Some(w) = certificates::write(forms, words, tokens, end.tokens, p, listing, out) else {
+    let state = run.machine.state;
+    let Some(w) = certificates::write(
+        run.machine.forms,
+        state.props,
+        run.tokens,
+        run.written,
+        p,
+        listing,
+        out,
+    ) else {
         return Err(Refusal(Why::OutputShort, 0));
     };
     Ok(Accepted {
         length: w.length,
-        work: Work(budget - end.state.remaining.0),
+        work: Work(budget - state.remaining.0),
         inferences: w.inferences,
     })
 }

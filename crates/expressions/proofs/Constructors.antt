@@ -1,5 +1,5 @@
 -- Constructors: one law for each return. The arguments stand on the empty chain, the last one first.
-use Rattle.std.specs.Prelude.{Option, Some, None, Ok}
+use Rattle.std.specs.Prelude.{Option, Some, None}
 use mathlib.Core.Path.{◌≡◌, refl, sym, ap, subst, ◌∙◌}
 use mathlib.Core.Bool.{true, false}
 use mathlib.Core.List.{List, [], ◌∷◌}
@@ -29,7 +29,7 @@ use Rattle.bindings.specs.Stands.{Is, Stands, Chain}
 use Rattle.bindings.proofs.Tags.{tag, held}
 use Rattle.bindings.proofs.Chains.{chain_low}
 use Rattle.expressions.specs.declared.State.{State}
-use Rattle.expressions.specs.Machine.{Shared, M, refused, out_of, part_of, Made}
+use Rattle.expressions.specs.Machine.{Shared, M, mk, done, refused, part_of, Made}
 use Rattle.expressions.specs.Asked.{Text, Applicable}
 use Rattle.expressions.specs.Meets.{Meets, Called}
 use Rattle.expressions.proofs.Growth.{used}
@@ -123,7 +123,7 @@ module _ (rows : List (List ℕ)) (fs : List Form) (t : List ℕ) (n : ℕ) wher
 -- a proposition formed: its record, and what the language constructs
 
 formed_meets : (rows : List (List ℕ)) (m : M) (fs : List Form) (c p q : ℕ) (y : Rec) (F : Form) (t : List ℕ) (o : Value × State) → Table (used m) fs → m.st.props < length m.forms → length m.forms ≤ 16384
-    → code y ≡ word (3 + c) p q → Below (length (used m)) y → formed fs y ≡ F → Made c p q m.st m.forms t o → Meets 1 0 rows m fs (out_of t m.binds (Ok o)) (out (form F) m.st.remaining.0)
+    → code y ≡ word (3 + c) p q → Below (length (used m)) y → formed fs y ≡ F → Made c p q m.st m.forms t o → Meets 1 0 rows m fs (done o.0 (mk t m.binds o.1)) (out (form F) m.st.remaining.0)
 unfolding Meets Stands
 formed_meets rows m fs c p q y F t o T room small e below f made =
     let n = m.st.props in
@@ -152,7 +152,7 @@ formed_meets rows m fs c p q y F t o T room small e below f made =
       refl,
     )
 
-not_meets : (rows : List (List ℕ)) (m : M) (fs : List Form) (c p : ℕ) (P : Form) (t : List ℕ) (o : Value × State) → Table (used m) fs → m.st.props < length m.forms → length m.forms ≤ 16384 → c ≡ 0 → Is fs p P → Made c p 0 m.st m.forms t o → Meets 1 0 rows m fs (out_of t m.binds (Ok o)) (out (form (neg P)) m.st.remaining.0)
+not_meets : (rows : List (List ℕ)) (m : M) (fs : List Form) (c p : ℕ) (P : Form) (t : List ℕ) (o : Value × State) → Table (used m) fs → m.st.props < length m.forms → length m.forms ≤ 16384 → c ≡ 0 → Is fs p P → Made c p 0 m.st m.forms t o → Meets 1 0 rows m fs (done o.0 (mk t m.binds o.1)) (out (form (neg P)) m.st.remaining.0)
 unfolding Below formed
 not_meets rows m fs c p P t o T room small z x made =
     let count = T.count in
@@ -170,7 +170,7 @@ join_code (suc (suc zero)) p q h = refl
 join_code (suc (suc (suc zero))) p q h = refl
 join_code (suc (suc (suc (suc c)))) p q h = absurd (omega arith)
 
-join_meets : (rows : List (List ℕ)) (m : M) (fs : List Form) (c p q : ℕ) (P Q : Form) (t : List ℕ) (o : Value × State) → Table (used m) fs → m.st.props < length m.forms → length m.forms ≤ 16384 → (c ≡ 0 → ⊥) → c ≤ 4 → Is fs p P → Is fs q Q → Made c p q m.st m.forms t o → Meets 1 0 rows m fs (out_of t m.binds (Ok o)) (out (form (constructed c (P ∷ (Q ∷ [])))) m.st.remaining.0)
+join_meets : (rows : List (List ℕ)) (m : M) (fs : List Form) (c p q : ℕ) (P Q : Form) (t : List ℕ) (o : Value × State) → Table (used m) fs → m.st.props < length m.forms → length m.forms ≤ 16384 → (c ≡ 0 → ⊥) → c ≤ 4 → Is fs p P → Is fs q Q → Made c p q m.st m.forms t o → Meets 1 0 rows m fs (done o.0 (mk t m.binds o.1)) (out (form (constructed c (P ∷ (Q ∷ [])))) m.st.remaining.0)
 unfolding Below formed constructed conn_of
 join_meets rows m fs zero p q P Q t o T room small z h x y made = absurd (z refl)
 join_meets rows m fs (suc c) p q P Q t o T room small z h x y made =
@@ -230,7 +230,7 @@ module _ (s : Shared) (d c y n k : ℕ) (m : M) where
     first_is : (u : Binding) → u ≡ binding_at m.binds (b.next - 1) → (r : Option ℕ) → part_of u.value ≡ r → part_of first_value ≡ r
     first_is u v r e = ap (λ (z : Binding). part_of (value_at m.binds (z.next - 1))) (sym g) ∙ ap (λ (z : Binding). part_of z.value) (sym v) ∙ e
 
-    pub con_one : (q : ℕ) (t : List ℕ) (o : Value × State) → m.st.props < length m.forms → length m.forms ≤ 16384 → c ≡ 0 → part_of b.value ≡ Some q → Made c q 0 m.st m.forms t o → Called s d (Constructor c) y n k m (out_of t m.binds (Ok o))
+    pub con_one : (q : ℕ) (t : List ℕ) (o : Value × State) → m.st.props < length m.forms → length m.forms ≤ 16384 → c ≡ 0 → part_of b.value ≡ Some q → Made c q 0 m.st m.forms t o → Called s d (Constructor c) y n k m (done o.0 (mk t m.binds o.1))
     con_one q t o room small z e f = record {
       meets = λ x fs X vs w st ch l.
           let E = evaluate x.phrases d in
@@ -239,10 +239,10 @@ module _ (s : Shared) (d c y n k : ℕ) (m : M) where
           let P = formed_piece x.rows fs m.binds m.st.bindings u.last last_value q u.stands (value_is (Some q) e) in
           let p : called E X vs k m.st.remaining.0 ≡ out (form (neg P.0)) m.st.remaining.0 =
           ap (λ (Y : Val). called E Y vs k m.st.remaining.0) is.0 ∙ ap (λ (l : List Val). called E (con_v c) l k m.st.remaining.0) (u.all ∙ ap (λ (Y : Val). Y ∷ []) P.1) ∙ called_one E k m.st.remaining.0 c P.0 z in
-          subst (Meets 1 0 x.rows m fs (out_of t m.binds (Ok o))) (sym p) (not_meets x.rows m fs c q P.0 t o w.legible.table room small z P.2 f);
+          subst (Meets 1 0 x.rows m fs (done o.0 (mk t m.binds o.1))) (sym p) (not_meets x.rows m fs c q P.0 t o w.legible.table room small z P.2 f);
     }
 
-    pub con_two : (p q : ℕ) (v : Binding) (t : List ℕ) (o : Value × State) → m.st.props < length m.forms → length m.forms ≤ 16384 → (c ≡ 0 → ⊥) → part_of b.value ≡ Some q → v ≡ binding_at m.binds (b.next - 1) → part_of v.value ≡ Some p → Made c p q m.st m.forms t o → Called s d (Constructor c) y n k m (out_of t m.binds (Ok o))
+    pub con_two : (p q : ℕ) (v : Binding) (t : List ℕ) (o : Value × State) → m.st.props < length m.forms → length m.forms ≤ 16384 → (c ≡ 0 → ⊥) → part_of b.value ≡ Some q → v ≡ binding_at m.binds (b.next - 1) → part_of v.value ≡ Some p → Made c p q m.st m.forms t o → Called s d (Constructor c) y n k m (done o.0 (mk t m.binds o.1))
     con_two p q v t o room small z e h f r = record {
       meets = λ x fs X vs w st ch l.
           let E = evaluate x.phrases d in
@@ -254,7 +254,7 @@ module _ (s : Shared) (d c y n k : ℕ) (m : M) where
           ap (λ (Y : Val). called E Y vs k m.st.remaining.0) is.0
           ∙ ap (λ (l : List Val). called E (con_v c) l k m.st.remaining.0) (u.all ∙ ap (λ (Y : Val). Y ∷ (u.last ∷ [])) P.1 ∙ ap (λ (Y : Val). form P.0 ∷ (Y ∷ [])) Q.1)
           ∙ called_two E k m.st.remaining.0 c P.0 Q.0 z in
-          subst (Meets 1 0 x.rows m fs (out_of t m.binds (Ok o))) (sym T) (join_meets x.rows m fs c p q P.0 Q.0 t o w.legible.table room small z is.1 P.2 Q.2 r);
+          subst (Meets 1 0 x.rows m fs (done o.0 (mk t m.binds o.1))) (sym T) (join_meets x.rows m fs c p q P.0 Q.0 t o w.legible.table room small z is.1 P.2 Q.2 r);
     }
 
     pub con_first_other : (v : Binding) → (c ≡ 0 → ⊥) → v ≡ binding_at m.binds (b.next - 1) → part_of v.value ≡ None → Called s d (Constructor c) y n k m (refused wrong_kind k)

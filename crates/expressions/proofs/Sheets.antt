@@ -1,4 +1,5 @@
 -- After a sheet was read into lent buffers, any expression of it may be evaluated with nothing bound.
+use Rattle.std.specs.Prelude.{Ok}
 use mathlib.Core.Path.{◌≡◌, sym, ap, ◌∙◌}
 use mathlib.Core.List.{List}
 use Prim.Native.Nat.{ℕ, ◌+◌, ◌*◌, ◌≤◌, ◌<◌}
@@ -10,7 +11,6 @@ use Rattle.records.specs.Rows.{flat}
 use Rattle.records.specs.Reading.{Tables, reading}
 use Rattle.records.proofs.Tables.{Wide, flat_long}
 use Rattle.reader.specs.declared.Counts.{Counts}
-use Rattle.std.specs.Prelude.{Ok}
 use Rattle.reader.specs.Buffers.{Holds}
 use Rattle.reader.specs.Laid.{Laid}
 use Rattle.reader.proofs.Laying.{laid, patterns_wide, phrases_wide}

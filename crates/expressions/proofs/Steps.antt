@@ -1,5 +1,5 @@
 -- Entering, expressions that run no other, and let: one law for each return. What the callees ensure and the tests say gives the language's answer.
-use Rattle.std.specs.Prelude.{Option, Some, None, Result, Ok}
+use Rattle.std.specs.Prelude.{Option, Some, None, Result}
 use mathlib.Core.Path.{◌≡◌, refl, sym, ap, subst, ◌∙◌}
 use mathlib.Core.Bool.{true, false}
 use mathlib.Core.List.{List, ◌++◌}
@@ -22,7 +22,7 @@ use Rattle.bindings.specs.Numbers.{closure_of, numbers_of, Small, found}
 use Rattle.bindings.specs.Stands.{kind_of_sort, closed, Written, Stands, Chain, Looks, Linked}
 use Rattle.bindings.proofs.Chains.{looked, chain_low, stands_small, pushed, fixed}
 use Rattle.expressions.specs.declared.State.{State}
-use Rattle.expressions.specs.Machine.{Shared, M, MOut, done, refused, out_of, counters, spent, kind, one, two, selfed, variable_of}
+use Rattle.expressions.specs.Machine.{Shared, M, MOut, done, refused, out_of, counters, spent, kind, one, two, selfed, variable_of, mk}
 use Rattle.expressions.specs.Asked.{Text, Row, World, Ready}
 use Rattle.expressions.specs.Meets.{Meets, Evaluated, Stepped}
 use Rattle.expressions.proofs.Operands.{kind_at, row_inside, says_prop, says_var, says_con, says_rule, says_closure, says_let, says_fix, kind_low, prop_low, con_low, rule_low, first_row, second_row, fix_row}
@@ -89,14 +89,14 @@ module _ (s : Shared) (d env k : ℕ) (m : M) where
         (step_is x.phrases (evaluate x.phrases d) e k m.st.remaining.0 _ (says_rule x fs s m w k r.0 (sym g ∙ z)));
   }
 
-  variable_by : (rows : List (List ℕ)) (fs : List Form) (w : ℕ) → m.st.remaining.0 ≡ w → Table (used m) fs → (r : Option Value) (q : Out Val) → Looks rows fs m.binds m.st.bindings r q k w → Meets 4 4 rows m fs (out_of m.forms m.binds (variable_of k m.st r)) q
-  unfolding Looks variable_of Meets
+  variable_by : (rows : List (List ℕ)) (fs : List Form) (w : ℕ) → m.st.remaining.0 ≡ w → Table (used m) fs → (r : Option Value) (q : Out Val) → Looks rows fs m.binds m.st.bindings r q k w → Meets 4 4 rows m fs (out_of m (variable_of k r)) q
+  unfolding Looks Meets
   variable_by rows fs w g t (Some v) (out X w') z = given 4 4 rows m fs X v (out X w') t z.0 (ap (out X) (z.1 ∙ sym g))
   variable_by rows fs w g t (Some v) (stop n y) z = z
   variable_by rows fs w g t None (out X w') z = z
   variable_by rows fs w g t None (stop n y) z = (sym z.0, sym z.1)
 
-  pub variable_is : (c a : ℕ) (o : Result (Value × State) Refusal) → c ≡ kind s.phrases k → a ≡ one s.phrases k → c ≡ 1 → o ≡ variable_of k m.st (found m.binds env a) → Stepped s d env k m (out_of m.forms m.binds o)
+  pub variable_is : (c a : ℕ) (o : Result Value Refusal) → c ≡ kind s.phrases k → a ≡ one s.phrases k → c ≡ 1 → o ≡ variable_of k (found m.binds env a) → Stepped s d env k m (out_of m o)
   unfolding evaluated
   variable_is c a o g i z j = record {
     meets = λ x fs e w r ch.
@@ -141,11 +141,11 @@ module _ (s : Shared) (d env k : ℕ) (m : M) where
         (step_is x.phrases (evaluate x.phrases d) e k m.st.remaining.0 _ (says_closure x fs s m w k r.0 S (sym g ∙ q))));
   }
 
-  pub fix_is : (c a : ℕ) (o : Value × State) (b : List ℕ) → c ≡ kind s.phrases k → a ≡ one s.phrases k → c ≡ 8 → 4 * m.st.bindings + 4 ≤ length m.binds
-      → o ≡ (selfed s.phrases a m.st.bindings, counters m.st.props (m.st.bindings + 1) m.st.remaining.0)
-      → b ≡ sets m.binds (4 * m.st.bindings) (numbers_of (selfed s.phrases a m.st.bindings) env) → Stepped s d env k m (out_of m.forms b (Ok o))
+  pub fix_is : (c a : ℕ) (v : Value) (st : State) (b : List ℕ) → c ≡ kind s.phrases k → a ≡ one s.phrases k → c ≡ 8 → 4 * m.st.bindings + 4 ≤ length m.binds
+      → v ≡ selfed s.phrases a m.st.bindings → st ≡ counters m.st.props (m.st.bindings + 1) m.st.remaining.0
+      → b ≡ sets m.binds (4 * m.st.bindings) (numbers_of (selfed s.phrases a m.st.bindings) env) → Stepped s d env k m (done v (mk m.forms b st))
   unfolding evaluated
-  fix_is c a o b g i z room j l = record {
+  fix_is c a v₀ st b g i z room j j₁ l = record {
     meets = λ x fs e w r ch.
         let q : ℕ = one s.phrases k in
         let f = fix_row x fs s m w k r (sym g ∙ z) in
@@ -153,7 +153,7 @@ module _ (s : Shared) (d env k : ℕ) (m : M) where
         let S : Sort = sort_of (cell x.rows q 0) in
         let v = selfed s.phrases q m.st.bindings in
         let wr : Written x.rows q S (cell x.rows q 1) (cell x.rows q 2) = record { low = f.0; kind = f.1.1 ∙ ap kind_of_sort (sym (sort_back f.1.0 (cell x.rows q 0) f.1.1)); parameters = refl; body = refl } in
-        rw (j, l, i, same)
+        rw (j, j₁, l, i, same)
         (after_push m fs (closed S (closure_of q (m.st.bindings + 1))) env 4 3 x.rows (done (closed S (closure_of q (m.st.bindings + 1))) (push m (closed S (closure_of q (m.st.bindings + 1))) env)) (evaluate_step x.phrases (evaluate x.phrases d) e k m.st.remaining.0) w.legible.table
         (given 4 3 x.rows (push m (closed S (closure_of q (m.st.bindings + 1))) env) fs (closure S true (cell x.rows q 1) (cell x.rows q 2) e) (closed S (closure_of q (m.st.bindings + 1))) (evaluate_step x.phrases (evaluate x.phrases d) e k m.st.remaining.0) w.legible.table
         (fixed x.rows fs m.binds m.st.bindings env room e S q (cell x.rows q 1) (cell x.rows q 2) ch wr)

@@ -1,5 +1,5 @@
 -- The state of a run as one value, answers with what they leave, and what the smallest functions give.
-use Rattle.std.specs.Prelude.{◌≡◌, List, [], ◌∷◌, ℕ, zero, suc, ◌+◌, ◌*◌, ◌-◌, get_or, Option, Some, None, Result, Ok, Err}
+use Rattle.std.specs.Prelude.{◌≡◌, List, [], ◌∷◌, ℕ, zero, suc, ◌+◌, ◌*◌, ◌-◌, length, get_or, Option, Some, None, Result, Ok, Err, ok_or}
 use Rattle.std.proofs.lemmas.List.Edits.{sets}
 use Rattle.language.specs.Numbered.{number_of}
 use Rattle.language.specs.declared.refusal.Refusal.{Refusal}
@@ -13,6 +13,7 @@ use Rattle.bindings.specs.declared.Value.TheVariants.{Prop, Constructor, Rule, F
 use Rattle.bindings.specs.Numbers.{closure_of, numbers_of}
 use Rattle.bindings.specs.Stands.{closed}
 use Rattle.expressions.specs.declared.State.{State}
+use Rattle.expressions.specs.declared.Machine.{Machine}
 
 -- the buffers that are only read: phrases and patterns
 pub record Shared : Type 0 where
@@ -38,23 +39,40 @@ counters p b r = record { props = p; bindings = b; remaining = record { 0 = r } 
 abbrev pub spent : M → M
 spent m = mk m.forms m.binds (counters m.st.props m.st.bindings (m.st.remaining.0 - 1))
 
+-- what a machine only reads
+abbrev pub reads : Machine → Shared
+reads x = shared x.phrases.now x.patterns.now
+
+-- what it changes
+abbrev pub machine : Machine → M
+machine x = mk x.forms.now x.binds.now x.state
+
+-- both go over the same lent buffers, which are as long as they were, and read the same phrases and patterns
+pub record Same (x y : Machine) : Type 0 where
+  pub forms : y.forms.ghost_name ≡ x.forms.ghost_name
+  pub binds : y.binds.ghost_name ≡ x.binds.ghost_name
+  pub phrases : y.phrases ≡ x.phrases
+  pub patterns : y.patterns ≡ x.patterns
+  pub forms_long : length y.forms.now ≡ length x.forms.now
+  pub binds_long : length y.binds.now ≡ length x.binds.now
+
 -- a value with what it leaves, or a refusal
 pub data MOut : Type 0 where
   done : Value → M → MOut
   refused : ℕ → ℕ → MOut
 
-abbrev pub out_of : List ℕ → List ℕ → Result (Value × State) Refusal → MOut
-out_of f b (Ok p) = done p.0 (mk f b p.1)
-out_of f b (Err r) = refused (number_of r.0) r.1
+abbrev pub out_of : M → Result Value Refusal → MOut
+out_of m (Ok v) = done v m
+out_of m (Err r) = refused (number_of r.0) r.1
 
 -- the start of a chain of arguments with what it leaves, or a refusal
 pub data MArgs : Type 0 where
   pushed : ℕ → M → MArgs
   stopped : ℕ → ℕ → MArgs
 
-abbrev pub args_of : List ℕ → List ℕ → Result (ℕ × State) Refusal → MArgs
-args_of f b (Ok p) = pushed p.0 (mk f b p.1)
-args_of f b (Err r) = stopped (number_of r.0) r.1
+abbrev pub args_of : M → Result ℕ Refusal → MArgs
+args_of m (Ok y) = pushed y m
+args_of m (Err r) = stopped (number_of r.0) r.1
 
 -- a phrase's kind and its first two operands, where its row of twelve numbers lies
 abbrev pub kind : List ℕ → ℕ → ℕ
@@ -76,9 +94,8 @@ abbrev pub selfed : List ℕ → ℕ → ℕ → Value
 selfed ph a n = closed (sort_of (kind ph a)) (closure_of a (n + 1))
 
 -- what a variable gives
-unfoldable pub variable_of : ℕ → State → Option Value → Result (Value × State) Refusal
-variable_of k st (Some v) = Ok (v, st)
-variable_of k st None = Err (record { 0 = NoBinding; 1 = k })
+abbrev pub variable_of : ℕ → Option Value → Result Value Refusal
+variable_of k r = ok_or r (record { 0 = NoBinding; 1 = k })
 
 -- a value as a part of a proposition
 abbrev pub part_of : Value → Option ℕ

@@ -1,3 +1,4 @@
+pub mod KindNumbers
 pub mod Positions
 pub mod Interning
 pub mod Records

@@ -12,6 +12,8 @@ ghost use Rattle.forms.specs.Interned.{position, Interned, first};
 
 pub mod kind;
 
+pub use kind::Kind;
+
 // A proposition's number, and how many words are then in use.
 #[derive(Drop)]
 pub struct Formed {
@@ -29,8 +31,8 @@ pub const FALSE: usize = 1;
 pub fn start(t: &mut [u32]) -> usize
     ensures { (result ≡ length first) × (t.new ≡ sets t.old 0 first) }
 {
-    words::put(t, TRUE, kind::TRUE);
-    words::put(t, FALSE, kind::FALSE);
+    words::put(t, TRUE, Kind::True as usize);
+    words::put(t, FALSE, Kind::False as usize);
     2
 }
 
@@ -39,7 +41,7 @@ pub fn atom(t: &mut [u32], n: usize, a: usize) -> Formed
     requires { (n < length t.old) × (a < 16384) }
     ensures { Interned (code (atom_r a)) n t.old t.new result }
 {
-    form(t, n, kind::ATOM, a, 0)
+    intern(t, n, Kind::Atom.word(a, 0))
 }
 
 // Not p.
@@ -47,7 +49,7 @@ pub fn negation(t: &mut [u32], n: usize, p: usize) -> Formed
     requires { (n < length t.old) × (p < 16384) }
     ensures { Interned (code (neg_r p)) n t.old t.new result }
 {
-    form(t, n, kind::NOT, p, 0)
+    intern(t, n, Kind::Not.word(p, 0))
 }
 
 // p and q.
@@ -55,7 +57,7 @@ pub fn conjunction(t: &mut [u32], n: usize, p: usize, q: usize) -> Formed
     requires { (n < length t.old) × (p < 16384) × (q < 16384) }
     ensures { Interned (code (bin_r conj p q)) n t.old t.new result }
 {
-    form(t, n, kind::AND, p, q)
+    intern(t, n, Kind::And.word(p, q))
 }
 
 // p or q.
@@ -63,7 +65,7 @@ pub fn disjunction(t: &mut [u32], n: usize, p: usize, q: usize) -> Formed
     requires { (n < length t.old) × (p < 16384) × (q < 16384) }
     ensures { Interned (code (bin_r disj p q)) n t.old t.new result }
 {
-    form(t, n, kind::OR, p, q)
+    intern(t, n, Kind::Or.word(p, q))
 }
 
 // p if-then q.
@@ -71,7 +73,7 @@ pub fn conditional(t: &mut [u32], n: usize, p: usize, q: usize) -> Formed
     requires { (n < length t.old) × (p < 16384) × (q < 16384) }
     ensures { Interned (code (bin_r cond p q)) n t.old t.new result }
 {
-    form(t, n, kind::IF, p, q)
+    intern(t, n, Kind::If.word(p, q))
 }
 
 // p iff q.
@@ -79,7 +81,7 @@ pub fn biconditional(t: &mut [u32], n: usize, p: usize, q: usize) -> Formed
     requires { (n < length t.old) × (p < 16384) × (q < 16384) }
     ensures { Interned (code (bin_r bicond p q)) n t.old t.new result }
 {
-    form(t, n, kind::IFF, p, q)
+    intern(t, n, Kind::Iff.word(p, q))
 }
 
 // The record of a kind and two parts, each of which fits its bits.

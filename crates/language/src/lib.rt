@@ -10,7 +10,9 @@ pub mod node;
 pub mod refusal;
 pub mod rule;
 
+pub use node::Node;
 pub use refusal::{Refusal, Why};
+pub use rule::Rule;
 
 // Evaluations begun.
 #[derive(Drop)]
@@ -40,15 +42,11 @@ pub struct Stands {
 }
 
 // Document 01's argument counts, by the rule's number.
-const ARGUMENTS: [usize; rule::COUNT] = [1, 2, 2, 1, 2, 1, 1, 2, 2, 3, 2, 1, 1, 0, 2, 0];
+const ARGUMENTS: [usize; Rule::COUNT] = [1, 2, 2, 1, 2, 1, 1, 2, 2, 3, 2, 1, 1, 0, 2, 0];
 
 // How many arguments a rule takes; 0 for a number that is no rule's.
 pub fn arguments(rule: usize) -> usize
     ensures { result ≡ get_or arity rule 0 }
 {
-    if rule < rule::COUNT {
-        ARGUMENTS[rule]
-    } else {
-        0
-    }
+    ARGUMENTS.get(rule).copied().unwrap_or(0)
 }

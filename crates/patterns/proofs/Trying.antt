@@ -9,6 +9,7 @@ use native.Mathlib.Omega.{arith}
 use native.Mathlib.Decide.{ℕ_discrete as dec_eq}
 use lib.ListN.{length, get_or, take, length-append}
 use lib.Dec.{eqb}
+use borrow.Author.Tests.{eqb-true, eq-eqb}
 use Rattle.language.specs.Form.{Conn, Form}
 use Rattle.language.specs.Syntax.{Pattern, any, exactly, neg_p, bin_p}
 use Rattle.language.specs.Numbers.{pick}
@@ -18,7 +19,9 @@ use Rattle.forms.specs.Word.{kind, left, right, code}
 use Rattle.forms.specs.Table.{tree, Row}
 use Rattle.forms.proofs.Trees.{same_at}
 use Rattle.records.specs.Rows.{cell, pattern_of, pattern_by}
-use Rattle.theorems.proofs.Lists.{all_append}
+use Rattle.records.specs.PatternNumbers.{pattern_kind_of}
+use Rattle.records.proofs.PatternNumbers.{none_found}
+use Rattle.theorems.proofs.Lists.{all_append, clash}
 use Rattle.reader.specs.Stands.{PatternRow, any_row, exactly_row, not_row, join_row}
 use Rattle.patterns.specs.declared.Parts.{Parts}
 use Rattle.patterns.specs.Parts.{with, extend}
@@ -181,10 +184,27 @@ module _ (forms patterns : List ℕ) (q p : ℕ) (b : Parts) (x : Tried forms pa
         other = λ s. rw (e, y.tree) (bin_other x.trees (pat one) (pat two) y.says K (omega arith) (omega arith) (λ z. s (ap kind f ∙ z)));
       }
 
+-- what the test of two kinds says
+pub met_so : (b : Bool) (kw n : ℕ) → b ≡ eqb kw n → b ≡ true → kw ≡ n
+met_so b kw n e f = eqb-true kw n (sym e ∙ f)
+
+pub unmet_so : (b : Bool) (kw n : ℕ) → b ≡ eqb kw n → b ≡ false → kw ≡ n → ⊥
+unmet_so b kw n e f g = clash (ap (λ (x : Bool). elim x [ true ↦ 1 | false ↦ 0 ]) (sym f ∙ e ∙ eq-eqb kw n g))
+
+-- a row's kind is a kind's number
+pub none_fits : (forms patterns : List ℕ) (q p : ℕ) (b : Parts) (k : ℕ) → k ≡ get_or patterns (5 * q) 0 → pattern_kind_of k ≡ None → FitsSo forms patterns q p b None
+none_fits forms patterns q p b k i e = record { meets = λ x. absurd (omega (arith, kind_small forms patterns q p b x k i, none_found k e)) }
+
 -- what the parts ask
 module _ (forms patterns : List ℕ) (q p : ℕ) (b : Parts) (k one w kw l : ℕ)
     (i : k ≡ get_or patterns (5 * q) 0) (i₁ : one ≡ get_or patterns (5 * q + 1) 0) (j : w ≡ get_or forms p 0) (jk : kw ≡ kind w) (jl : l ≡ left w)
-    (k₀ : k ≡ 0 → ⊥) (k₁ : k ≡ 1 → ⊥) where
+    (over : 2 ≤ k) where
+  k₀ : k ≡ 0 → ⊥
+  k₀ e = omega (arith, e, over)
+
+  k₁ : k ≡ 1 → ⊥
+  k₁ e = omega (arith, e, over)
+
   pub left_low : Tried forms patterns q p b → one < q
   left_low x = go (dec_eq k 2)
     where
@@ -215,61 +235,55 @@ module _ (forms patterns : List ℕ) (q p : ℕ) (b : Parts) (k one w kw l : ℕ
       go x (yes e) = rw ((neg_open forms patterns q p b x one w (sym i ∙ e) i₁ j).other (λ z. s (jk ∙ z ∙ rw e))) tt
       go x (no e) = rw ((bin_open forms patterns q p b x k one (get_or patterns (5 * q + 2) 0) w i k₀ k₁ e i₁ refl j).other (λ z. s (jk ∙ z))) tt
 
-  miss : (fs : List Form) (a a' : Pattern) (o : Maybe (List Form)) → Fitted fs a b None o → Fitted fs a' b None o
-  unfolding Fitted
-  miss fs a a' none h = h
-  miss fs a a' (some ps) h = h
-
   join_misses : (fs : List Form) (a a' : Pattern) (o o' : Maybe (List Form)) → Fitted fs a b None o → Fitted fs a' b None (join_fits o o')
   unfolding Fitted join_fits
   join_misses fs a a' none o' h = tt
   join_misses fs a a' (some ps) o' h = absurd h
 
-  pub left_misses : kw ≡ k + 1 → FitsSo forms patterns one l b None → FitsSo forms patterns q p b None
+  pub left_misses : 3 ≤ k → kw ≡ k + 1 → FitsSo forms patterns one l b None → FitsSo forms patterns q p b None
   unfolding binders
-  left_misses s F = record { meets = λ x. go x (dec_eq k 2) }
+  left_misses joins s F = record { meets = λ x. go x }
     where
       F' : FitsSo forms patterns one (left w) b None
       F' = rw jl at F
 
-      go : (x : Tried forms patterns q p b) → Dec (k ≡ 2) → Fitted x.trees (get_or x.qs q any) b None (fits (get_or x.qs q any) (tree x.trees p))
-      go x (yes e) =
-          let o = neg_open forms patterns q p b x one w (sym i ∙ e) i₁ j in
-          let P = o.part (sym jk ∙ s ∙ rw e) in
-          let r = room_at forms patterns q p b x (neg_p (get_or x.qs one any)) o.pattern in
-          rw P.0 (miss x.trees (get_or x.qs one any) (get_or x.qs q any) (fits (get_or x.qs one any) (tree x.trees (left w)))
-          (F'.meets (inner forms patterns q p b x one (left w) b o.low P.1 r)))
-      go x (no e) =
+      go : (x : Tried forms patterns q p b) → Fitted x.trees (get_or x.qs q any) b None (fits (get_or x.qs q any) (tree x.trees p))
+      go x =
           let two : ℕ = get_or patterns (5 * q + 2) 0 in
-          let o = bin_open forms patterns q p b x k one two w i k₀ k₁ e i₁ refl j in
+          let o = bin_open forms patterns q p b x k one two w i k₀ k₁ (λ e. omega (arith, e, joins)) i₁ refl j in
           let P = o.part (sym jk ∙ s) in
           let r = room_at forms patterns q p b x (bin_p o.conn (get_or x.qs one any) (get_or x.qs two any)) o.pattern in
           rw P.0 (join_misses x.trees (get_or x.qs one any) (get_or x.qs q any) (fits (get_or x.qs one any) (tree x.trees (left w))) (fits (get_or x.qs two any) (tree x.trees (right w)))
           (F'.meets (inner forms patterns q p b x one (left w) b o.low P.1 (omega (arith, r)))))
 
   -- not a pattern: what the part binds
-  fits_on : (fs : List Form) (a a' : Pattern) (c : Parts) (o : Maybe (List Form)) → binders a ≡ binders a' → Fitted fs a b (Some c) o → Fitted fs a' b (Some c) o
+  fits_on : (fs : List Form) (a a' : Pattern) (f : Option Parts) (o : Maybe (List Form)) → binders a ≡ binders a' → Fitted fs a b f o → Fitted fs a' b f o
   unfolding Fitted
-  fits_on fs a a' c none e h = h
-  fits_on fs a a' c (some ps) e h = (h.0, h.1, h.2, h.3 ∙ e)
+  fits_on fs a a' None none e h = h
+  fits_on fs a a' None (some ps) e h = h
+  fits_on fs a a' (Some c) none e h = h
+  fits_on fs a a' (Some c) (some ps) e h = (h.0, h.1, h.2, h.3 ∙ e)
 
-  pub neg_fits : (c : Parts) → kw ≡ k + 1 → k ≡ 2 → FitsSo forms patterns one l b (Some c) → FitsSo forms patterns q p b (Some c)
+  pub neg_fits : (f : Option Parts) → kw ≡ k + 1 → k ≡ 2 → FitsSo forms patterns one l b f → FitsSo forms patterns q p b f
   unfolding binders
-  neg_fits c s e F = record { meets = λ x. go x }
+  neg_fits f s e F = record { meets = λ x. go x }
     where
-      F' : FitsSo forms patterns one (left w) b (Some c)
+      F' : FitsSo forms patterns one (left w) b f
       F' = rw jl at F
 
-      go : (x : Tried forms patterns q p b) → Fitted x.trees (get_or x.qs q any) b (Some c) (fits (get_or x.qs q any) (tree x.trees p))
+      go : (x : Tried forms patterns q p b) → Fitted x.trees (get_or x.qs q any) b f (fits (get_or x.qs q any) (tree x.trees p))
       go x =
           let o = neg_open forms patterns q p b x one w (sym i ∙ e) i₁ j in
           let P = o.part (sym jk ∙ s ∙ rw e) in
           let r = room_at forms patterns q p b x (neg_p (get_or x.qs one any)) o.pattern in
-          rw P.0 (fits_on x.trees (get_or x.qs one any) (get_or x.qs q any) c (fits (get_or x.qs one any) (tree x.trees (left w))) (sym (ap binders o.pattern))
+          rw P.0 (fits_on x.trees (get_or x.qs one any) (get_or x.qs q any) f (fits (get_or x.qs one any) (tree x.trees (left w))) (sym (ap binders o.pattern))
           (F'.meets (inner forms patterns q p b x one (left w) b o.low P.1 r)))
 
   -- two patterns joined: the right part after what the left part binds
-  module _ (two r : ℕ) (i₂ : two ≡ get_or patterns (5 * q + 2) 0) (jr : r ≡ right w) (k₂ : k ≡ 2 → ⊥) (s : kw ≡ k + 1) (c : Parts) (F : FitsSo forms patterns one l b (Some c)) where
+  module _ (two r : ℕ) (i₂ : two ≡ get_or patterns (5 * q + 2) 0) (jr : r ≡ right w) (joins : 3 ≤ k) (s : kw ≡ k + 1) (c : Parts) (F : FitsSo forms patterns one l b (Some c)) where
+    k₂ : k ≡ 2 → ⊥
+    k₂ e = omega (arith, e, joins)
+
     left_answer : (x : Tried forms patterns q p b) → Fitted x.trees (get_or x.qs one any) b (Some c) (fits (get_or x.qs one any) (tree x.trees (left w)))
     unfolding binders
     left_answer x =

@@ -4,14 +4,14 @@
 // What is bound or chosen is what the language's `fits` and `choose` give at the trees that the numbers stand for.
 #![tactic(auto)]
 
-ghost use Rattle.std.specs.Prelude.{◌≡◌, ◌<◌};
+ghost use Rattle.std.specs.Prelude.{◌≡◌, ◌+◌, ◌<◌, ◌≤◌, eqb};
+ghost use Rattle.forms.specs.KindNumbers.{kind_number};
+ghost use Rattle.records.specs.PatternNumbers.{pattern_number};
 ghost use Rattle.patterns.specs.Parts.{none_bound, with};
 ghost use Rattle.patterns.specs.Fitting.{exactly_so, Tried, FitsSo, Offered, ChosenSo};
 
-use records::{pattern_kind, rows};
-
-// A connective's kind in a proposition is so much above its kind in a pattern.
-const ABOVE: usize = forms::kind::NOT - pattern_kind::NOT;
+use forms::Kind;
+use records::{PatternKind, rows};
 
 // What a pattern binds, left to right: so many propositions by their numbers, the first ones of four.
 #[derive(Clone, Copy)]
@@ -48,24 +48,43 @@ pub fn tried(forms: &[u32], patterns: &[u32], q: usize, p: usize, before: Parts)
     requires { Tried forms.now patterns.now q p before }
     ensures { FitsSo forms.now patterns.now q p before result }
 {
-    let kind = words::at(patterns, rows::PATTERN * q);
+    let kind = PatternKind::of(words::at(patterns, rows::PATTERN * q))?;
     let one = words::at(patterns, rows::PATTERN * q + 1);
-    if kind == pattern_kind::ANY {
-        return Some(extended(before, p));
-    }
-    if kind == pattern_kind::EXACTLY {
-        return exact(one, p, before);
-    }
     let w = words::at(forms, p);
-    if forms::kind_of(w) == kind + ABOVE {
-        let parts = tried(forms, patterns, one, forms::left_of(w), before)?;
-        if kind == pattern_kind::NOT {
-            return Some(parts);
+    let met = joins(kind, Kind::of_word(w));
+    match kind {
+        PatternKind::Any => Some(extended(before, p)),
+        PatternKind::Exactly => exact(one, p, before),
+        PatternKind::Not => {
+            if met {
+                tried(forms, patterns, one, forms::left_of(w), before)
+            } else {
+                None
+            }
         }
-        let two = words::at(patterns, rows::PATTERN * q + 2);
-        return tried(forms, patterns, two, forms::right_of(w), parts);
+        PatternKind::And | PatternKind::Or | PatternKind::If | PatternKind::Iff => {
+            if !met {
+                return None;
+            }
+            let parts = tried(forms, patterns, one, forms::left_of(w), before)?;
+            let two = words::at(patterns, rows::PATTERN * q + 2);
+            tried(forms, patterns, two, forms::right_of(w), parts)
+        }
     }
-    None
+}
+
+// Whether a pattern of a kind is over the parts of a proposition of a kind, each of not, and, or, if and iff over its own.
+fn joins(pattern: PatternKind, kind: Kind) -> bool
+    ensures { 2 ≤ pattern_number pattern → result ≡ eqb (kind_number kind) (pattern_number pattern + 1) }
+{
+    match pattern {
+        PatternKind::Any | PatternKind::Exactly => false,
+        PatternKind::Not => kind == Kind::Not,
+        PatternKind::And => kind == Kind::And,
+        PatternKind::Or => kind == Kind::Or,
+        PatternKind::If => kind == Kind::If,
+        PatternKind::Iff => kind == Kind::Iff,
+    }
 }
 
 // Nothing bound.

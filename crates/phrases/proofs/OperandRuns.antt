@@ -60,7 +60,7 @@ module _ (s : List ℕ) (rows : List (List ℕ)) (few : length rows ≤ 512) (at
   operand_narrow operand.Deduction e = classed (λ k. leb 16 (cell rows k 0)) wrong_reference e
   operand_narrow operand.Abstraction e = classed (λ k. eqb (cell rows k 0) 4 || eqb (cell rows k 0) 5) wrong_reference e
 
-pub operand_fits : (s t : List ℕ) (n : ℕ) → n < 512 → (at v next : ℕ) (what : Operand) → operand_at s (rows_in 12 n t) what at ≡ got v next → v < 2 ^ 32
+pub operand_fits : (s t : List ℕ) (n : ℕ) → n ≤ 512 → (at v next : ℕ) (what : Operand) → operand_at s (rows_in 12 n t) what at ≡ got v next → v < 2 ^ 32
 operand_fits s t n h at v next what e =
     let l = rows_long 12 n t in
     operand_narrow s (rows_in 12 n t) (omega arith) at v next what e

@@ -10,7 +10,7 @@ use lib.Dec.{eqb}
 use Rattle.language.specs.Refusals.{out_of_range, wrong_reference}
 use Rattle.language.specs.Numbers.{Got, got, then, check, number, record_at}
 use Rattle.language.specs.Numbers as sheet
-use Rattle.records.proofs.ByKind.{Each, each_at, past}
+use Rattle.records.proofs.ByKind.{Each, each_at}
 use Rattle.std.specs.Prelude.{None}
 use Rattle.records.specs.Rows.{cell, phrase_cells}
 use Rattle.records.specs.Reading.{phrase_row_kinds, phrase_row, row_ref, fixed_row, one_row}

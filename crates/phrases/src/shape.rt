@@ -2,7 +2,7 @@
 ghost use Rattle.std.specs.Prelude.{◌≡◌, ◌<◌};
 ghost use Rattle.phrases.specs.Shapes.{shape_of};
 
-use records::phrase_kind;
+use records::PhraseKind;
 
 // One operand: a number in its range, or an earlier phrase of a class.
 #[derive(Clone, Copy)]
@@ -33,25 +33,24 @@ pub enum Shape {
 pub fn shape_of(kind: usize) -> Option<Shape>
     ensures { result ≡ shape_of kind }
 {
-    let shape = match kind {
-        phrase_kind::PROPOSITION => Shape::Name,
-        phrase_kind::VARIABLE => Shape::One(Operand::Variable),
-        phrase_kind::CONSTRUCTOR => Shape::One(Operand::Constructor),
-        phrase_kind::RULE => Shape::One(Operand::Rule),
-        phrase_kind::FUNCTION => Shape::Two(Operand::Parameters, Operand::Expression),
-        phrase_kind::METHOD => Shape::Two(Operand::Parameters, Operand::Deduction),
-        phrase_kind::CALL => Shape::Call(Operand::Expression),
-        phrase_kind::LET => Shape::Two(Operand::Expression, Operand::Expression),
-        phrase_kind::FIX => Shape::One(Operand::Abstraction),
-        phrase_kind::MATCH => Shape::Match(Operand::Expression, Operand::Expression),
-        phrase_kind::METHOD_CALL => Shape::Call(Operand::Phrase),
-        phrase_kind::ASSUME => Shape::Two(Operand::Expression, Operand::Deduction),
-        phrase_kind::SUPPOSE => Shape::Two(Operand::Expression, Operand::Deduction),
-        phrase_kind::DLET => Shape::Two(Operand::Phrase, Operand::Deduction),
-        phrase_kind::BY => Shape::Two(Operand::Expression, Operand::Deduction),
-        phrase_kind::BLOCK => Shape::Block,
-        phrase_kind::DMATCH => Shape::Match(Operand::Phrase, Operand::Deduction),
-        _ => return None,
+    let shape = match PhraseKind::of(kind)? {
+        PhraseKind::Proposition => Shape::Name,
+        PhraseKind::Variable => Shape::One(Operand::Variable),
+        PhraseKind::Constructor => Shape::One(Operand::Constructor),
+        PhraseKind::Rule => Shape::One(Operand::Rule),
+        PhraseKind::Function => Shape::Two(Operand::Parameters, Operand::Expression),
+        PhraseKind::Method => Shape::Two(Operand::Parameters, Operand::Deduction),
+        PhraseKind::Call => Shape::Call(Operand::Expression),
+        PhraseKind::Let => Shape::Two(Operand::Expression, Operand::Expression),
+        PhraseKind::Fix => Shape::One(Operand::Abstraction),
+        PhraseKind::Match => Shape::Match(Operand::Expression, Operand::Expression),
+        PhraseKind::MethodCall => Shape::Call(Operand::Phrase),
+        PhraseKind::Assume => Shape::Two(Operand::Expression, Operand::Deduction),
+        PhraseKind::Suppose => Shape::Two(Operand::Expression, Operand::Deduction),
+        PhraseKind::DLet => Shape::Two(Operand::Phrase, Operand::Deduction),
+        PhraseKind::By => Shape::Two(Operand::Expression, Operand::Deduction),
+        PhraseKind::Block => Shape::Block,
+        PhraseKind::DMatch => Shape::Match(Operand::Phrase, Operand::Deduction),
     };
     Some(shape)
 }

@@ -104,10 +104,11 @@ module _ (s : List ℕ) (count words at : ℕ) (names₀ forms₀ : List ℕ) (r
     words_known : take used forms ≡ a.ws
     words_known = let l = a.in_use in rw (a.forms_are, ← l) (take_front a.ws forms₀)
 
-    pub at_names : i < count → Names i names
-    at_names h =
-        let l = a.names_long in
-        record { within = omega (arith, room.names); low = rw known a.low }
+    pub at_names : Names (take i names)
+    at_names = record { low = rw known a.low }
+
+    pub at_inside : i < count → i ≤ length names
+    at_inside h = let l = a.names_long in omega (arith, room.names)
 
     pub at_room : i < count → used < length forms
     at_room h =

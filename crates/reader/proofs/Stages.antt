@@ -81,8 +81,8 @@ module _ (s : List ℕ) (T : Tables) (at : ℕ) (bs₀ bs : List ℕ) (b : Liste
     root_answered x a = ending g x rooted a
 
 -- the same over the names of a buffer
-module _ (s : List ℕ) (T : Tables) (at props words patterns count : ℕ) (ns hs bs₀ bs : List ℕ) (H : ReadSoFar T props words ns) (many : length T.patterns ≡ patterns) (are : T.phrases ≡ rows_in 12 count hs)
-    (b : Listed) (G : Gathered (part_four s (take props ns) at) b bs₀ bs) where
+module _ (s : List ℕ) (T : Tables) (at words patterns count : ℕ) (ns hs bs₀ bs : List ℕ) (H : ReadSoFar T words ns) (many : length T.patterns ≡ patterns) (are : T.phrases ≡ rows_in 12 count hs)
+    (b : Listed) (G : Gathered (part_four s ns at) b bs₀ bs) where
   G' : Gathered (part_four s T.names at) b bs₀ bs
   G' = rw H.names G
 
@@ -95,14 +95,14 @@ module _ (s : List ℕ) (T : Tables) (at props words patterns count : ℕ) (ns h
   from_base_rootless next err e r = root_answered s T at bs₀ bs b G' next e (no (number_of err.0) err.1) (rw are r) (Err err) refl
 
   pub from_base_rooted : (next root end : ℕ) → b.ended ≡ Ok next → root_at s (rows_in 12 count hs) next ≡ got root end
-      → FromBase (after_base s T (part_four s T.names at)) (Ok (record { props = props; words = words; patterns = patterns; phrases = count; base = b.count; root = root })) bs₀ bs
+      → FromBase (after_base s T (part_four s T.names at)) (Ok (record { props = length ns; words = words; patterns = patterns; phrases = count; base = b.count; root = root })) bs₀ bs
   unfolding counted
   from_base_rooted next root end e r =
       let h : length T.phrases ≡ count = ap length are ∙ rows_long 12 count hs in
       let c : length (part_four s T.names at).items ≡ b.count = sym G'.count in
       root_answered s T at bs₀ bs b G' next e (got root end) (rw are r)
-      (Ok (record { props = props; words = words; patterns = patterns; phrases = count; base = b.count; root = root }))
-      (rw (H.props_many, H.words_many, many, h, c))
+      (Ok (record { props = length ns; words = words; patterns = patterns; phrases = count; base = b.count; root = root }))
+      (rw (c, H.words_many, many, h, H.names))
 
 -- part 3, and what follows it
 base_part : (s : List ℕ) (T : Tables) (a : ℕ) → T.base ≡ [] → onward T (from 0 64 s a) (λ nb b. after_base s T (keeping (λ acc. name_ref s T.names) nb [] b)) ≡ after_base s T (part_four s T.names a)
@@ -137,8 +137,8 @@ module _ (s : List ℕ) (T : Tables) (at : ℕ) (hs₀ hs bs₀ : List ℕ) (f :
       rw (phrases_on next e) (record { answered = D.answered; phrases = rw k L.table; base = D.base })
 
 -- the same over the names of a buffer
-module _ (s : List ℕ) (T : Tables) (at props words patterns : ℕ) (ns hs₀ hs bs₀ : List ℕ) (H : ReadSoFar T props words ns) (many : length T.patterns ≡ patterns)
-    (f : Listed) (L : Listing 12 512 (part_three s (take props ns) patterns at) f hs₀ hs) where
+module _ (s : List ℕ) (T : Tables) (at words patterns : ℕ) (ns hs₀ hs bs₀ : List ℕ) (H : ReadSoFar T words ns) (many : length T.patterns ≡ patterns)
+    (f : Listed) (L : Listing 12 512 (part_three s ns patterns at) f hs₀ hs) where
   L' : Listing 12 512 (part_three s T.names (length T.patterns) at) f hs₀ hs
   L' = rw (H.names, many) L
 
@@ -146,11 +146,11 @@ module _ (s : List ℕ) (T : Tables) (at props words patterns : ℕ) (ns hs₀ h
   from_phrases_refused = phrases_refused s T at hs₀ hs bs₀ f L'
 
   pub from_phrases_read : (next : ℕ) (r : Result Counts Refusal) (bs : List ℕ) → f.ended ≡ Ok next
-      → ((U : Tables) → ReadSoFar U props words ns → length U.patterns ≡ patterns → U.phrases ≡ rows_in 12 f.count hs → FromBase (after_base s U (part_four s U.names next)) r bs₀ bs)
+      → ((U : Tables) → ReadSoFar U words ns → length U.patterns ≡ patterns → U.phrases ≡ rows_in 12 f.count hs → FromBase (after_base s U (part_four s U.names next)) r bs₀ bs)
       → FromPhrases (after_phrases s T (part_three s T.names (length T.patterns) at)) r hs₀ bs₀ hs bs
   from_phrases_read next r bs e D =
       phrases_read s T at hs₀ hs bs₀ f L' next r bs e
-      (D (tables T T.patterns (part_three s T.names (length T.patterns) at).items []) (record { names = H.names; props_many = H.props_many; words_many = H.words_many }) many (sym L'.rows))
+      (D (tables T T.patterns (part_three s T.names (length T.patterns) at).items []) (record { names = H.names; words_many = H.words_many }) many (sym L'.rows))
 
 -- part 2, and what follows it
 phrases_part : (s : List ℕ) (T : Tables) (a : ℕ) → T.phrases ≡ [] → T.base ≡ [] → onward T (from 1 512 s a) (λ nf b. after_phrases s T (keeping (phrase_row s T.names (length T.patterns)) nf [] b)) ≡ after_phrases s T (part_three s T.names (length T.patterns) a)
@@ -188,7 +188,7 @@ module _ (s : List ℕ) (T : Tables) (at : ℕ) (ps₀ ps hs₀ bs₀ : List ℕ
       rw (patterns_on next e) (record { answered = D.answered; patterns = rw k L.table; phrases = D.phrases; base = D.base })
 
 -- the same over the names of a buffer
-module _ (s : List ℕ) (T : Tables) (at props words : ℕ) (ns ps₀ ps hs₀ bs₀ : List ℕ) (H : ReadSoFar T props words ns) (q : Listed) (L : Listing 5 128 (part_two s (take props ns) at) q ps₀ ps) where
+module _ (s : List ℕ) (T : Tables) (at words : ℕ) (ns ps₀ ps hs₀ bs₀ : List ℕ) (H : ReadSoFar T words ns) (q : Listed) (L : Listing 5 128 (part_two s ns at) q ps₀ ps) where
   L'' : Listing 5 128 (part_two s T.names at) q ps₀ ps
   L'' = rw H.names L
 
@@ -196,11 +196,11 @@ module _ (s : List ℕ) (T : Tables) (at props words : ℕ) (ns ps₀ ps hs₀ b
   from_patterns_refused = patterns_refused s T at ps₀ ps hs₀ bs₀ q L''
 
   pub from_patterns_read : (next : ℕ) (r : Result Counts Refusal) (hs bs : List ℕ) → q.ended ≡ Ok next
-      → ((U : Tables) → ReadSoFar U props words ns → length U.patterns ≡ q.count → FromPhrases (after_phrases s U (part_three s U.names (length U.patterns) next)) r hs₀ bs₀ hs bs)
+      → ((U : Tables) → ReadSoFar U words ns → length U.patterns ≡ q.count → FromPhrases (after_phrases s U (part_three s U.names (length U.patterns) next)) r hs₀ bs₀ hs bs)
       → FromPatterns (after_patterns s T (part_two s T.names at)) r ps₀ hs₀ bs₀ ps hs bs
   from_patterns_read next r hs bs e D =
       patterns_read s T at ps₀ ps hs₀ bs₀ q L'' next r hs bs e
-      (D (tables T (part_two s T.names at).items [] []) (record { names = H.names; props_many = H.props_many; words_many = H.words_many }) (sym L''.count))
+      (D (tables T (part_two s T.names at).items [] []) (record { names = H.names; words_many = H.words_many }) (sym L''.count))
 
 -- part 1, and what follows it
 patterns_part : (s : List ℕ) (T : Tables) (a : ℕ) → T.patterns ≡ [] → T.phrases ≡ [] → T.base ≡ [] → onward T (from 0 128 s a) (λ nq b. after_patterns s T (keeping (pattern_row s T.names) nq [] b)) ≡ after_patterns s T (part_two s T.names a)
@@ -226,8 +226,8 @@ module _ (s : List ℕ) (ns₀ fs₀ ns fs : List ℕ) (p : Named) (P : Proposit
   abbrev with_names : Tables
   with_names = record { names = (part_one s).names; words = (part_one s).words; patterns = []; phrases = []; base = [] }
 
-  pub names_hold : ReadSoFar with_names p.props p.words ns
-  names_hold = record { names = sym (rw (P.names, P.props) (take_front (part_one s).names ns₀)); props_many = sym P.props; words_many = sym P.words }
+  pub names_hold : ReadSoFar with_names p.words (take p.props ns)
+  names_hold = record { names = sym (rw (P.names, P.props) (take_front (part_one s).names ns₀)); words_many = sym P.words }
 
   pub names_fit : p.props ≤ length ns
   names_fit =
@@ -246,7 +246,7 @@ module _ (s : List ℕ) (ns₀ fs₀ ns fs : List ℕ) (p : Named) (P : Proposit
   sheet_on next e = reading_parts s ∙ rw (ended_at p.ended (part_one s).ended next e P.ended) (patterns_part s with_names next refl refl refl)
 
   pub whole_read : (next : ℕ) (r : Result Counts Refusal) (ps₀ hs₀ bs₀ ps hs bs : List ℕ) → p.ended ≡ Ok next
-      → ((T : Tables) → ReadSoFar T p.props p.words ns → FromPatterns (after_patterns s T (part_two s T.names next)) r ps₀ hs₀ bs₀ ps hs bs)
+      → ((T : Tables) → ReadSoFar T p.words (take p.props ns) → FromPatterns (after_patterns s T (part_two s T.names next)) r ps₀ hs₀ bs₀ ps hs bs)
       → Laid s r ns₀ fs₀ ps₀ hs₀ bs₀ ns fs ps hs bs
   whole_read next r ps₀ hs₀ bs₀ ps hs bs e D =
       let K = part_two s (part_one s).names next in

@@ -56,10 +56,9 @@ counted T (got root end) =
 abbrev pub answer : Reading → Result Counts (ℕ × ℕ)
 answer X = counted X.tables X.root
 
--- what is read already: names, of which the first so many stand in a buffer, and so many words
-pub record ReadSoFar (T : Tables) (props words : ℕ) (ns : List ℕ) : Type 0 where
-  pub names : T.names ≡ take props ns
-  pub props_many : length T.names ≡ props
+-- what is read already: the names, and so many words
+pub record ReadSoFar (T : Tables) (words : ℕ) (ns : List ℕ) : Type 0 where
+  pub names : T.names ≡ ns
   pub words_many : length T.words ≡ words
 
 -- what reading from the base on answers, and leaves in the buffers of the parts that it reads

@@ -59,7 +59,7 @@ pub fn read_sheet(
 {
     let p = parts::propositions(names, forms, s);
     let next = p.ended?;
-    read_patterns(patterns, phrases, base, names, s, p.props, p.words, next)
+    read_patterns(patterns, phrases, base, &names[..p.props], s, p.words, next)
 }
 
 // So many propositions, whose records are at a place, of a sheet or of a certificate. Each gets a name, its number in the table, of which
@@ -78,7 +78,7 @@ pub fn read_propositions(
     let mut used = words;
     let mut p = at;
     for i in 0..count {
-        match props::word_at(names, s, i, p) {
+        match props::word_at(&names[..i], s, p) {
             Ok((w, next)) => {
                 let f = forms::intern(forms, used, w);
                 words::put(names, i, f.at);
@@ -108,16 +108,15 @@ fn read_patterns(
     base: &mut [u32],
     names: &[u32],
     s: &[u8],
-    props: usize,
     words: usize,
     at: usize,
 ) -> Result<Counts, Refusal>
-    requires { (props ≤ length names.now) × (640 ≤ length patterns.old) × (6144 ≤ length phrases.old) × (64 ≤ length base.old) }
-    ensures { (T : Tables) → ReadSoFar T props words names.now → FromPatterns (after_patterns s.now T (part_two s.now T.names at)) result patterns.old phrases.old base.old patterns.new phrases.new base.new }
+    requires { (640 ≤ length patterns.old) × (6144 ≤ length phrases.old) × (64 ≤ length base.old) }
+    ensures { (T : Tables) → ReadSoFar T words names.now → FromPatterns (after_patterns s.now T (part_two s.now T.names at)) result patterns.old phrases.old base.old patterns.new phrases.new base.new }
 {
-    let q = parts::patterns(patterns, names, s, props, at);
+    let q = parts::patterns(patterns, names, s, at);
     let next = q.ended?;
-    read_phrases(phrases, base, names, s, props, words, q.count, next)
+    read_phrases(phrases, base, names, s, words, q.count, next)
 }
 
 // Part 3, and what follows it.
@@ -126,19 +125,16 @@ fn read_phrases(
     base: &mut [u32],
     names: &[u32],
     s: &[u8],
-    props: usize,
     words: usize,
     patterns: usize,
     at: usize,
 ) -> Result<Counts, Refusal>
-    requires { (props ≤ length names.now) × (patterns ≤ 128) × (6144 ≤ length phrases.old) × (64 ≤ length base.old) }
-    ensures { (T : Tables) → ReadSoFar T props words names.now → length T.patterns ≡ patterns → FromPhrases (after_phrases s.now T (part_three s.now T.names (length T.patterns) at)) result phrases.old base.old phrases.new base.new }
+    requires { (patterns ≤ 128) × (6144 ≤ length phrases.old) × (64 ≤ length base.old) }
+    ensures { (T : Tables) → ReadSoFar T words names.now → length T.patterns ≡ patterns → FromPhrases (after_phrases s.now T (part_three s.now T.names (length T.patterns) at)) result phrases.old base.old phrases.new base.new }
 {
-    let f = parts::phrases(phrases, names, s, props, patterns, at);
+    let f = parts::phrases(phrases, names, s, patterns, at);
     let next = f.ended?;
-    read_base(
-        base, phrases, names, s, props, words, patterns, f.count, next,
-    )
+    read_base(base, phrases, names, s, words, patterns, f.count, next)
 }
 
 // Parts 4 and 5.
@@ -147,20 +143,19 @@ fn read_base(
     phrases: &[u32],
     names: &[u32],
     s: &[u8],
-    props: usize,
     words: usize,
     patterns: usize,
     count: usize,
     at: usize,
 ) -> Result<Counts, Refusal>
-    requires { (props ≤ length names.now) × (count ≤ 512) × (64 ≤ length base.old) }
-    ensures { (T : Tables) → ReadSoFar T props words names.now → length T.patterns ≡ patterns → T.phrases ≡ rows_in 12 count phrases.now → FromBase (after_base s.now T (part_four s.now T.names at)) result base.old base.new }
+    requires { (count ≤ 512) × (64 ≤ length base.old) }
+    ensures { (T : Tables) → ReadSoFar T words names.now → length T.patterns ≡ patterns → T.phrases ≡ rows_in 12 count phrases.now → FromBase (after_base s.now T (part_four s.now T.names at)) result base.old base.new }
 {
-    let b = parts::base(base, names, s, props, at);
+    let b = parts::base(base, names, s, at);
     let next = b.ended?;
     let (root, end) = parts::root(phrases, s, count, next)?;
     Ok(Counts {
-        props,
+        props: names.len(),
         words,
         patterns,
         phrases: count,

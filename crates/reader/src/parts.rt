@@ -46,12 +46,12 @@ pub fn propositions(names: &mut [u32], forms: &mut [u32], s: &[u8]) -> Named
 }
 
 // Part 2: at most 128 patterns.
-pub fn patterns(patterns: &mut [u32], names: &[u32], s: &[u8], props: usize, at: usize) -> Listed
-    requires { (props ≤ length names.now) × (640 ≤ length patterns.old) }
-    ensures { Listing 5 128 (part_two s.now (take props names.now) at) result patterns.old patterns.new }
+pub fn patterns(patterns: &mut [u32], names: &[u32], s: &[u8], at: usize) -> Listed
+    requires { 640 ≤ length patterns.old }
+    ensures { Listing 5 128 (part_two s.now names.now at) result patterns.old patterns.new }
 {
     match numbers::read_from(s, at, 0, MOST_PATTERNS) {
-        Ok((count, next)) => pattern_rows(patterns, names, s, props, count, next),
+        Ok((count, next)) => pattern_rows(patterns, names, s, count, next),
         Err(refusal) => Listed {
             count: 0,
             ended: Err(refusal),
@@ -60,19 +60,12 @@ pub fn patterns(patterns: &mut [u32], names: &[u32], s: &[u8], props: usize, at:
 }
 
 // Part 3: at least one phrase, at most 512.
-pub fn phrases(
-    phrases: &mut [u32],
-    names: &[u32],
-    s: &[u8],
-    props: usize,
-    patterns: usize,
-    at: usize,
-) -> Listed
-    requires { (props ≤ length names.now) × (patterns ≤ 128) × (6144 ≤ length phrases.old) }
-    ensures { Listing 12 512 (part_three s.now (take props names.now) patterns at) result phrases.old phrases.new }
+pub fn phrases(phrases: &mut [u32], names: &[u32], s: &[u8], patterns: usize, at: usize) -> Listed
+    requires { (patterns ≤ 128) × (6144 ≤ length phrases.old) }
+    ensures { Listing 12 512 (part_three s.now names.now patterns at) result phrases.old phrases.new }
 {
     match numbers::read_from(s, at, 1, MOST_PHRASES) {
-        Ok((count, next)) => phrase_rows(phrases, names, s, props, patterns, count, next),
+        Ok((count, next)) => phrase_rows(phrases, names, s, patterns, count, next),
         Err(refusal) => Listed {
             count: 0,
             ended: Err(refusal),
@@ -81,12 +74,12 @@ pub fn phrases(
 }
 
 // Part 4: at most 64 propositions of the base.
-pub fn base(base: &mut [u32], names: &[u32], s: &[u8], props: usize, at: usize) -> Listed
-    requires { (props ≤ length names.now) × (64 ≤ length base.old) }
-    ensures { Gathered (part_four s.now (take props names.now) at) result base.old base.new }
+pub fn base(base: &mut [u32], names: &[u32], s: &[u8], at: usize) -> Listed
+    requires { 64 ≤ length base.old }
+    ensures { Gathered (part_four s.now names.now at) result base.old base.new }
 {
     match numbers::read_from(s, at, 0, MOST_MEMBERS) {
-        Ok((count, next)) => members(base, names, s, props, count, next),
+        Ok((count, next)) => members(base, names, s, count, next),
         Err(refusal) => Listed {
             count: 0,
             ended: Err(refusal),
@@ -107,20 +100,13 @@ pub fn root(phrases: &[u32], s: &[u8], n: usize, at: usize) -> Result<(usize, us
 }
 
 // So many patterns, whose records are at a place.
-fn pattern_rows(
-    patterns: &mut [u32],
-    names: &[u32],
-    s: &[u8],
-    props: usize,
-    count: usize,
-    at: usize,
-) -> Listed
-    requires { (props ≤ length names.now) × (count ≤ 128) × (640 ≤ length patterns.old) }
-    ensures { Listing 5 128 (keeping (pattern_row s.now (take props names.now)) count [] at) result patterns.old patterns.new }
+fn pattern_rows(patterns: &mut [u32], names: &[u32], s: &[u8], count: usize, at: usize) -> Listed
+    requires { (count ≤ 128) × (640 ≤ length patterns.old) }
+    ensures { Listing 5 128 (keeping (pattern_row s.now names.now) count [] at) result patterns.old patterns.new }
 {
     let mut p = at;
     for i in 0..count {
-        match patterns::read_pattern(patterns, names, s, props, i, p) {
+        match patterns::read_pattern(patterns, names, s, i, p) {
             Ok(next) => p = next,
             Err(refusal) => {
                 return Listed {
@@ -141,17 +127,16 @@ fn phrase_rows(
     phrases: &mut [u32],
     names: &[u32],
     s: &[u8],
-    props: usize,
     patterns: usize,
     count: usize,
     at: usize,
 ) -> Listed
-    requires { (props ≤ length names.now) × (patterns ≤ 128) × (count ≤ 512) × (6144 ≤ length phrases.old) }
-    ensures { Listing 12 512 (keeping (phrase_row s.now (take props names.now) patterns) count [] at) result phrases.old phrases.new }
+    requires { (patterns ≤ 128) × (count ≤ 512) × (6144 ≤ length phrases.old) }
+    ensures { Listing 12 512 (keeping (phrase_row s.now names.now patterns) count [] at) result phrases.old phrases.new }
 {
     let mut p = at;
     for i in 0..count {
-        match phrases::read_phrase(phrases, names, s, props, patterns, i, p) {
+        match phrases::read_phrase(phrases, names, s, patterns, i, p) {
             Ok(next) => p = next,
             Err(refusal) => {
                 return Listed {
@@ -168,20 +153,13 @@ fn phrase_rows(
 }
 
 // So many propositions of the base, whose references are at a place.
-fn members(
-    base: &mut [u32],
-    names: &[u32],
-    s: &[u8],
-    props: usize,
-    count: usize,
-    at: usize,
-) -> Listed
-    requires { (props ≤ length names.now) × (count ≤ length base.old) }
-    ensures { Gathered (keeping (λ acc. name_ref s.now (take props names.now)) count [] at) result base.old base.new }
+fn members(base: &mut [u32], names: &[u32], s: &[u8], count: usize, at: usize) -> Listed
+    requires { count ≤ length base.old }
+    ensures { Gathered (keeping (λ acc. name_ref s.now names.now) count [] at) result base.old base.new }
 {
     let mut p = at;
     for i in 0..count {
-        match names::name_ref(names, s, props, p) {
+        match names::name_ref(names, s, p) {
             Ok((v, next)) => {
                 words::put(base, i, v);
                 p = next;

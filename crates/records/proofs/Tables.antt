@@ -3,13 +3,12 @@ use Prim.Native.Nat.{ℕ, zero, suc, ◌+◌, ◌*◌, ◌≤◌, ◌<◌}
 use mathlib.Core.Path.{◌≡◌, refl, sym, ap, ◌∙◌}
 use mathlib.Core.List.{List, [], ◌∷◌, ◌++◌, append_assoc, append-nil}
 use native.Mathlib.Omega.{arith}
-use native.Mathlib.Numerals.{add-one}
 use native.Mathlib.Nat.{le_of_suc-le-suc}
-use lib.ListN.{length, get_or, set, take, drop, length-append, length-set, drop_of_length-le}
+use lib.ListN.{length, get_or, take, drop, length-append}
 use borrow.Rule.Slice.PartMut.{put_mid}
 use Rattle.std.specs.Prelude.{Result, Ok, Err}
 use Rattle.std.proofs.lemmas.List.Edits.{sets-eq}
-use lib.Seq.{sets, drop-drop, get_or-take, get_or-drop, drop-cons, take-append_seam, drop-append_seam}
+use lib.Seq.{sets, drop-drop, get_or-take, get_or-drop, take-append_seam, drop-append_seam}
 use Rattle.language.specs.Numbers.{Got, got, no}
 use Rattle.numbers.proofs.Bounds.{not_got}
 use Rattle.records.specs.Rows.{cell, flat}

@@ -1,5 +1,5 @@
 -- What reading a record answers and leaves, in the definition's words, and rows as a buffer has them.
-use Rattle.std.specs.Prelude.{ℕ, ◌<◌, ◌≤◌, ◌^◌, ◌≡◌, List, [], ◌∷◌, length, get_or, take, drop, Result, Ok, Err, IfOk}
+use Rattle.std.specs.Prelude.{ℕ, ◌<◌, ◌^◌, ◌≡◌, List, [], ◌∷◌, length, get_or, take, drop, Result, Ok, Err, IfOk}
 use Rattle.std.proofs.lemmas.List.Edits.{sets}
 use Rattle.language.specs.Numbers.{Got, got, no}
 use Rattle.language.specs.Numbered.{number_of}
@@ -24,10 +24,9 @@ unfoldable pub rows_in : ℕ → ℕ → List ℕ → List (List ℕ)
 rows_in w ℕ.zero t = []
 rows_in w (ℕ.suc n) t = take w t ∷ rows_in w n (drop w t)
 
--- the first n of the names are in the buffer, and each fits its bits of a word
-pub record Names (n : ℕ) (names : List ℕ) : Type 0 where
-  pub within : n ≤ length names
-  pub low : (j : ℕ) → get_or (take n names) j 0 < 16384
+-- each of the names fits its bits of a word
+pub record Names (names : List ℕ) : Type 0 where
+  pub low : (j : ℕ) → get_or names j 0 < 16384
 
 -- where the reading of a row ended
 unfoldable pub closed : {A : Type 0} → Got A → Got (Unit {0})

@@ -10,3 +10,6 @@ pub mod patterns;
 pub mod phrase_kind;
 pub mod props;
 pub mod rows;
+
+pub use pattern_kind::PatternKind;
+pub use phrase_kind::PhraseKind;

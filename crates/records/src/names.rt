@@ -6,12 +6,11 @@ ghost use Rattle.records.specs.Answers.{Narrow};
 
 use language::Refusal;
 
-// The number in the table of an earlier proposition, one of the first n names.
-pub fn name_ref(names: &[u32], s: &[u8], n: usize, at: usize) -> Result<(usize, usize), Refusal>
-    requires { n ≤ length names.now }
-    ensures { (gotten result ≡ name_ref s.now (take n names.now) at) × Narrow result }
+// The number in the table of an earlier proposition, one of the names.
+pub fn name_ref(names: &[u32], s: &[u8], at: usize) -> Result<(usize, usize), Refusal>
+    ensures { (gotten result ≡ name_ref s.now names.now at) × Narrow result }
 {
-    let (p, next) = numbers::read_below(s, at, n)?;
+    let (p, next) = numbers::read_below(s, at, names.len())?;
     Ok((cell(names, p), next))
 }
 

@@ -14,9 +14,9 @@
 ghost use Rattle.std.specs.Prelude.{◌≡◌, ◌<◌, ◌≤◌, IfOk, length};
 
 use bindings::Value;
-use expressions::State;
+use expressions::{Machine, State};
 use language::{Accepted, Refusal, Remaining};
-use records::{phrase_kind, rows};
+use records::{PhraseKind, rows};
 use std::io;
 use std::io::Read;
 
@@ -239,20 +239,26 @@ fn answer_phrase(
     let Ok(c) = reader::read_sheet(names, forms, patterns, phrases, base, sheet) else {
         return Ok(());
     };
-    if c.phrases <= k || phrase_kind::METHOD_CALL <= words::at(phrases, rows::PHRASE * k) {
+    if c.phrases <= k || PhraseKind::MethodCall as usize <= words::at(phrases, rows::PHRASE * k) {
         return Ok(());
     }
-    let st = State {
+    let state = State {
         props: c.words,
         bindings: 0,
         remaining: Remaining(evaluator::BUDGET),
     };
-    let depth = evaluator::NESTING;
+    let mut machine = Machine {
+        forms,
+        binds,
+        state,
+        phrases,
+        patterns,
+    };
     print!(rt; "V {k}")?;
-    match expressions::evaluate(forms, binds, phrases, patterns, st, 0, k, depth) {
-        Ok((v, left)) => {
+    match machine.evaluate(0, k, evaluator::NESTING) {
+        Ok(v) => {
             let (kind, number) = value(v);
-            println!(rt; " 0 {kind} {number} {}", left.remaining.0)
+            println!(rt; " 0 {kind} {number} {}", machine.state.remaining.0)
         }
         Err(r) => refused(rt, "", r),
     }

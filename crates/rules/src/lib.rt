@@ -6,13 +6,14 @@
 #![tactic(auto, using(std::proofs::lemmas::Bool::Decides::nat_tests))]
 
 ghost use Rattle.std.specs.Prelude.{◌≡◌, ℕ, ◌<◌, ◌≤◌, get_or};
+ghost use Rattle.forms.specs.KindNumbers.{kind_number};
 ghost use Rattle.forms.specs.Word.{kind, left, right};
 ghost use Rattle.rules.specs.Shapes.{Safe, Narrow, modus_ponens, modus_tollens, double_negation, dilemma, dilemma_end, equivalence, equivalence_end, absurdity, left_part, right_part, left_iff, right_iff, shaped};
 ghost use Rattle.rules.specs.Base.{within, premises, asked, grounds};
 ghost use Rattle.rules.specs.Applied.{Ready, Ruling};
 
-use forms::Formed;
-use language::{Why, rule};
+use forms::{Formed, Kind};
+use language::{Rule, Why};
 
 // What a rule gives: a conclusion that is in the table, or the word of one over what is there.
 #[derive(Drop)]
@@ -22,7 +23,7 @@ enum Conclusion {
 }
 
 // For each rule the arguments that are its premises: 1 the first, 2 the second, 4 the third.
-const PREMISES: [usize; rule::COUNT] = [1, 3, 3, 1, 3, 1, 1, 1, 2, 7, 3, 1, 1, 0, 3, 0];
+const PREMISES: [usize; Rule::COUNT] = [1, 3, 3, 1, 3, 1, 1, 1, 2, 7, 3, 1, 1, 0, 3, 0];
 
 // The rule at arguments x, y and z, in a table of n words and a base of b numbers: the conclusion's number and the count of words then in use.
 // Refused are arguments that have not the rule's shapes, and those of a number that is no rule's; then a premise that is not in the base.
@@ -61,11 +62,7 @@ fn grounded(base: &[u32], b: usize, rule: usize, x: usize, y: usize, z: usize) -
 fn premises_of(rule: usize) -> usize
     ensures { result ≡ get_or premises rule 0 }
 {
-    if rule < rule::COUNT {
-        PREMISES[rule]
-    } else {
-        0
-    }
+    PREMISES.get(rule).copied().unwrap_or(0)
 }
 
 // Whether p, where it is asked, is in the base.
@@ -87,73 +84,28 @@ fn member(base: &[u32], b: usize, p: usize) -> bool
     false
 }
 
-// What the rule gives where the arguments have its shapes.
+// What the rule gives where the arguments have its shapes. A number that is no rule's has none.
+#[tactic(auto, using(crate::proofs::Says::no_row, language::proofs::RuleNumbers::number_is), unfolding(crate::specs::Shapes::rows, crate::specs::Shapes::shaped))]
 fn conclude(t: &[u32], rule: usize, x: usize, y: usize, z: usize) -> Option<Conclusion>
     requires { Safe t.now x y }
     ensures { result ≡ shaped t.now rule x y z }
 {
-    if rule < rule::BOTH {
-        return first_four(t, rule, x, y);
-    }
-    if rule < rule::RIGHT_EITHER {
-        return second_four(t, rule, x, y);
-    }
-    if rule < rule::RIGHT_IFF {
-        return third_four(t, rule, x, y, z);
-    }
-    last_four(t, rule, x, y)
-}
-
-// Claim, modus-ponens, modus-tollens, double-negation.
-fn first_four(t: &[u32], rule: usize, x: usize, y: usize) -> Option<Conclusion>
-    requires { rule < 4 }
-    ensures { (z : ℕ) → result ≡ shaped t.now rule x y z }
-{
-    match rule {
-        rule::CLAIM => Some(Conclusion::Known(x)),
-        rule::MODUS_PONENS => modus_ponens(t, x, y),
-        rule::MODUS_TOLLENS => modus_tollens(t, x, y),
-        _ => double_negation(t, x),
-    }
-}
-
-// Both, left-and, right-and, left-either.
-fn second_four(t: &[u32], rule: usize, x: usize, y: usize) -> Option<Conclusion>
-    requires { Safe t.now x y × (4 ≤ rule) × (rule < 8) }
-    ensures { (z : ℕ) → result ≡ shaped t.now rule x y z }
-{
-    match rule {
-        rule::BOTH => Some(Conclusion::New(forms::word(forms::kind::AND, x, y))),
-        rule::LEFT_AND => left_part(t, x),
-        rule::RIGHT_AND => right_part(t, x),
-        _ => Some(Conclusion::New(forms::word(forms::kind::OR, x, y))),
-    }
-}
-
-// Right-either, constructive-dilemma, equivalence, left-iff.
-fn third_four(t: &[u32], rule: usize, x: usize, y: usize, z: usize) -> Option<Conclusion>
-    requires { Safe t.now x y × (8 ≤ rule) × (rule < 12) }
-    ensures { result ≡ shaped t.now rule x y z }
-{
-    match rule {
-        rule::RIGHT_EITHER => Some(Conclusion::New(forms::word(forms::kind::OR, x, y))),
-        rule::CONSTRUCTIVE_DILEMMA => dilemma(t, x, y, z),
-        rule::EQUIVALENCE => equivalence(t, x, y),
-        _ => left_iff(t, x),
-    }
-}
-
-// Right-iff, true-intro, absurd, false-elim; and no rule past them.
-fn last_four(t: &[u32], rule: usize, x: usize, y: usize) -> Option<Conclusion>
-    requires { Safe t.now x y × (12 ≤ rule) }
-    ensures { (z : ℕ) → result ≡ shaped t.now rule x y z }
-{
-    match rule {
-        rule::RIGHT_IFF => right_iff(t, x),
-        rule::TRUE_INTRO => Some(Conclusion::Known(forms::TRUE)),
-        rule::ABSURD => absurdity(t, x, y),
-        rule::FALSE_ELIM => Some(Conclusion::New(forms::word(forms::kind::NOT, forms::FALSE, 0))),
-        _ => None,
+    match Rule::of(rule)? {
+        Rule::Claim => Some(Conclusion::Known(x)),
+        Rule::ModusPonens => modus_ponens(t, x, y),
+        Rule::ModusTollens => modus_tollens(t, x, y),
+        Rule::DoubleNegation => double_negation(t, x),
+        Rule::Both => Some(Conclusion::New(Kind::And.word(x, y))),
+        Rule::LeftAnd => left_part(t, x),
+        Rule::RightAnd => right_part(t, x),
+        Rule::LeftEither | Rule::RightEither => Some(Conclusion::New(Kind::Or.word(x, y))),
+        Rule::ConstructiveDilemma => dilemma(t, x, y, z),
+        Rule::Equivalence => equivalence(t, x, y),
+        Rule::LeftIff => left_iff(t, x),
+        Rule::RightIff => right_iff(t, x),
+        Rule::TrueIntro => Some(Conclusion::Known(forms::TRUE)),
+        Rule::Absurd => absurdity(t, x, y),
+        Rule::FalseElim => Some(Conclusion::New(Kind::Not.word(forms::FALSE, 0))),
     }
 }
 
@@ -161,7 +113,7 @@ fn last_four(t: &[u32], rule: usize, x: usize, y: usize) -> Option<Conclusion>
 fn modus_ponens(t: &[u32], x: usize, y: usize) -> Option<Conclusion>
     ensures { result ≡ modus_ponens t.now x y }
 {
-    if kind(t, x) == forms::kind::IF && left(t, x) == y {
+    if kind(t, x) == Kind::If && left(t, x) == y {
         return Some(Conclusion::Known(right(t, x)));
     }
     None
@@ -171,11 +123,8 @@ fn modus_ponens(t: &[u32], x: usize, y: usize) -> Option<Conclusion>
 fn modus_tollens(t: &[u32], x: usize, y: usize) -> Option<Conclusion>
     ensures { result ≡ modus_tollens t.now x y }
 {
-    if kind(t, x) == forms::kind::IF
-        && kind(t, y) == forms::kind::NOT
-        && right(t, x) == left(t, y)
-    {
-        return Some(Conclusion::New(forms::word(forms::kind::NOT, left(t, x), 0)));
+    if kind(t, x) == Kind::If && kind(t, y) == Kind::Not && right(t, x) == left(t, y) {
+        return Some(Conclusion::New(Kind::Not.word(left(t, x), 0)));
     }
     None
 }
@@ -184,9 +133,9 @@ fn modus_tollens(t: &[u32], x: usize, y: usize) -> Option<Conclusion>
 fn double_negation(t: &[u32], x: usize) -> Option<Conclusion>
     ensures { result ≡ double_negation t.now x }
 {
-    if kind(t, x) == forms::kind::NOT {
+    if kind(t, x) == Kind::Not {
         let p = left(t, x);
-        if kind(t, p) == forms::kind::NOT {
+        if kind(t, p) == Kind::Not {
             return Some(Conclusion::Known(left(t, p)));
         }
     }
@@ -197,7 +146,7 @@ fn double_negation(t: &[u32], x: usize) -> Option<Conclusion>
 fn left_part(t: &[u32], x: usize) -> Option<Conclusion>
     ensures { result ≡ left_part t.now x }
 {
-    if kind(t, x) == forms::kind::AND {
+    if kind(t, x) == Kind::And {
         return Some(Conclusion::Known(left(t, x)));
     }
     None
@@ -207,7 +156,7 @@ fn left_part(t: &[u32], x: usize) -> Option<Conclusion>
 fn right_part(t: &[u32], x: usize) -> Option<Conclusion>
     ensures { result ≡ right_part t.now x }
 {
-    if kind(t, x) == forms::kind::AND {
+    if kind(t, x) == Kind::And {
         return Some(Conclusion::Known(right(t, x)));
     }
     None
@@ -217,7 +166,7 @@ fn right_part(t: &[u32], x: usize) -> Option<Conclusion>
 fn dilemma(t: &[u32], x: usize, y: usize, z: usize) -> Option<Conclusion>
     ensures { result ≡ dilemma t.now x y z }
 {
-    if kind(t, x) == forms::kind::OR && kind(t, y) == forms::kind::IF && left(t, x) == left(t, y) {
+    if kind(t, x) == Kind::Or && kind(t, y) == Kind::If && left(t, x) == left(t, y) {
         return dilemma_end(t, x, y, z);
     }
     None
@@ -227,7 +176,7 @@ fn dilemma(t: &[u32], x: usize, y: usize, z: usize) -> Option<Conclusion>
 fn dilemma_end(t: &[u32], x: usize, y: usize, z: usize) -> Option<Conclusion>
     ensures { result ≡ dilemma_end t.now x y z }
 {
-    if kind(t, z) == forms::kind::IF && right(t, x) == left(t, z) && right(t, y) == right(t, z) {
+    if kind(t, z) == Kind::If && right(t, x) == left(t, z) && right(t, y) == right(t, z) {
         return Some(Conclusion::Known(right(t, y)));
     }
     None
@@ -238,7 +187,7 @@ fn equivalence(t: &[u32], x: usize, y: usize) -> Option<Conclusion>
     requires { Narrow t.now x }
     ensures { result ≡ equivalence t.now x y }
 {
-    if kind(t, x) == forms::kind::IF && kind(t, y) == forms::kind::IF {
+    if kind(t, x) == Kind::If && kind(t, y) == Kind::If {
         return equivalence_end(t, x, y);
     }
     None
@@ -250,7 +199,7 @@ fn equivalence_end(t: &[u32], x: usize, y: usize) -> Option<Conclusion>
     ensures { result ≡ equivalence_end t.now x y }
 {
     if left(t, x) == right(t, y) && right(t, x) == left(t, y) {
-        return Some(Conclusion::New(forms::word(forms::kind::IFF, left(t, x), right(t, x))));
+        return Some(Conclusion::New(Kind::Iff.word(left(t, x), right(t, x))));
     }
     None
 }
@@ -260,8 +209,8 @@ fn left_iff(t: &[u32], x: usize) -> Option<Conclusion>
     requires { Narrow t.now x }
     ensures { result ≡ left_iff t.now x }
 {
-    if kind(t, x) == forms::kind::IFF {
-        return Some(Conclusion::New(forms::word(forms::kind::IF, left(t, x), right(t, x))));
+    if kind(t, x) == Kind::Iff {
+        return Some(Conclusion::New(Kind::If.word(left(t, x), right(t, x))));
     }
     None
 }
@@ -271,8 +220,8 @@ fn right_iff(t: &[u32], x: usize) -> Option<Conclusion>
     requires { Narrow t.now x }
     ensures { result ≡ right_iff t.now x }
 {
-    if kind(t, x) == forms::kind::IFF {
-        return Some(Conclusion::New(forms::word(forms::kind::IF, right(t, x), left(t, x))));
+    if kind(t, x) == Kind::Iff {
+        return Some(Conclusion::New(Kind::If.word(right(t, x), left(t, x))));
     }
     None
 }
@@ -281,17 +230,17 @@ fn right_iff(t: &[u32], x: usize) -> Option<Conclusion>
 fn absurdity(t: &[u32], x: usize, y: usize) -> Option<Conclusion>
     ensures { result ≡ absurdity t.now x y }
 {
-    if kind(t, y) == forms::kind::NOT && x == left(t, y) {
+    if kind(t, y) == Kind::Not && x == left(t, y) {
         return Some(Conclusion::Known(forms::FALSE));
     }
     None
 }
 
 // The kind of the record p.
-fn kind(t: &[u32], p: usize) -> usize
-    ensures { result ≡ kind (get_or t.now p 0) }
+fn kind(t: &[u32], p: usize) -> Kind
+    ensures { kind_number result ≡ kind (get_or t.now p 0) }
 {
-    forms::kind_of(words::at(t, p))
+    Kind::of_word(words::at(t, p))
 }
 
 // The left part of the record p.

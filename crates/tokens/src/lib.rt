@@ -6,14 +6,14 @@
 ghost use Rattle.std.specs.Prelude.{◌≡◌, [], ◌∷◌, ◌+◌, ◌<◌, ◌≤◌, ◌^◌, length};
 ghost use Rattle.std.proofs.lemmas.List.Edits.{sets};
 
-use language::node;
+use language::Node;
 
 // The 1 before two proofs.
 pub fn sequence(t: &mut [u32], n: usize) -> usize
     requires { n + 1 ≤ length t.old }
     ensures { (result ≡ n + 1) × (t.new ≡ sets t.old n (1 ∷ [])) }
 {
-    words::put(t, n, node::SEQUENCE);
+    words::put(t, n, Node::Sequence as usize);
     n + 1
 }
 
@@ -22,7 +22,7 @@ pub fn hypothesis(t: &mut [u32], n: usize, p: usize) -> usize
     requires { (n + 2 ≤ length t.old) × (p < 2 ^ 32) }
     ensures { (result ≡ n + 2) × (t.new ≡ sets t.old n (2 ∷ p ∷ [])) }
 {
-    words::put_all(t, n, &[node::HYPOTHESIS, p]);
+    words::put_all(t, n, &[Node::Hypothesis as usize, p]);
     n + 2
 }
 
@@ -31,6 +31,6 @@ pub fn rule(t: &mut [u32], n: usize, r: usize, count: usize, x: usize, y: usize,
     requires { (n + 5 ≤ length t.old) × (count ≤ 3) × (r < 2 ^ 32) × (x < 2 ^ 32) × (y < 2 ^ 32) × (z < 2 ^ 32) }
     ensures { (result ≡ n + 2 + count) × (t.new ≡ sets t.old n (0 ∷ r ∷ x ∷ y ∷ z ∷ [])) }
 {
-    words::put_all(t, n, &[node::RULE, r, x, y, z]);
+    words::put_all(t, n, &[Node::Rule as usize, r, x, y, z]);
     n + 2 + count
 }

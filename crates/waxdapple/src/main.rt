@@ -16,7 +16,7 @@ use std::fs::OpenOptions;
 use std::io;
 use std::io::{Read, Write};
 use std::rt::Files;
-use wording::{Fault, Reading, Scan};
+use wording::{Fault, Obstacle, Reading, Scan};
 
 // The front of a sheet that decides: no sheet that reads is longer than 12,297 bytes (`longest_sheet` of `theorems`), and ten bytes more are shown
 // around a place (`around_front` of `wording`).
@@ -150,20 +150,15 @@ fn answered(rt: &(impl Files + Print), input: &mut impl Read, r: Request) -> io:
         return cut_short(rt);
     };
     let in_sheet = s.said;
-    if faulty(
-        rt,
-        in_sheet,
-        wording::STRAY_IN_SHEET,
-        wording::OVER_IN_SHEET,
-    )? {
+    if faulty(rt, in_sheet, Obstacle::StrayInSheet, Obstacle::OverInSheet)? {
         return Ok(true);
     }
     let in_certificate = c.said;
     if faulty(
         rt,
         in_certificate,
-        wording::STRAY_IN_CERTIFICATE,
-        wording::OVER_IN_CERTIFICATE,
+        Obstacle::StrayInCertificate,
+        Obstacle::OverInCertificate,
     )? {
         return Ok(true);
     }
@@ -171,7 +166,7 @@ fn answered(rt: &(impl Files + Print), input: &mut impl Read, r: Request) -> io:
     let m = c.bytes;
     if n <= SHEET {
         if m <= CERTIFICATE {
-            with_both(rt, &sheet[..n], &certificate[..m], r)?;
+            with_both(rt, &sheet[..n], &certificate[..m], &r)?;
         }
     }
     Ok(true)
@@ -233,8 +228,8 @@ fn taken(out: &mut [u8], form: Option<u8>, reading: Reading, bytes: &[u8]) -> Re
 fn faulty(
     rt: &impl Print,
     said: Result<Scan, Fault>,
-    stray: usize,
-    over: usize,
+    stray: Obstacle,
+    over: Obstacle,
 ) -> io::Result<bool> {
     match said {
         Ok(_) => Ok(false),
@@ -254,25 +249,17 @@ fn with_both(
     rt: &(impl Files + Print),
     sheet: &[u8],
     certificate: &[u8],
-    r: Request,
+    r: &Request,
 ) -> io::Result<()> {
-    if r.kind == Some(b'E') {
-        return evaluate(rt, sheet, r.budget, r.print == Some(b'd'), r.keep);
+    match r.kind {
+        Some(b'E') => evaluate(rt, sheet, r),
+        Some(b'C') => check(rt, sheet, certificate, r),
+        _ => trouble(rt, Obstacle::NoRequest, 0, 0),
     }
-    if r.kind == Some(b'C') {
-        return check(rt, sheet, certificate, r.print == Some(b'd'));
-    }
-    trouble(rt, wording::NO_REQUEST, 0, 0)
 }
 
 // The evaluation of a sheet.
-fn evaluate(
-    rt: &(impl Files + Print),
-    sheet: &[u8],
-    budget: usize,
-    print: bool,
-    keep: Option<u8>,
-) -> io::Result<()> {
+fn evaluate(rt: &(impl Files + Print), sheet: &[u8], r: &Request) -> io::Result<()> {
     let mut listing = [0u32; evaluator::LISTING];
     let mut forms = [0u32; evaluator::FORMS];
     let mut patterns = [0u32; evaluator::PATTERNS];
@@ -283,7 +270,7 @@ fn evaluate(
     let mut out = [0u8; CERTIFICATE];
     let evaluated = evaluator::evaluate(
         sheet,
-        budget,
+        r.budget,
         &mut listing,
         &mut forms,
         &mut patterns,
@@ -293,7 +280,7 @@ fn evaluate(
         &mut tokens,
         &mut out,
     );
-    told_evaluation(rt, sheet, &out, evaluated, print, keep)
+    told_evaluation(rt, sheet, &out, evaluated, r)
 }
 
 // What an evaluation answered, with the certificate that it wrote.
@@ -302,22 +289,21 @@ fn told_evaluation(
     sheet: &[u8],
     out: &[u8],
     evaluated: Result<Accepted, Refusal>,
-    print: bool,
-    keep: Option<u8>,
+    r: &Request,
 ) -> io::Result<()> {
     let mut page = [0u8; PAGE];
     match evaluated {
         Ok(a) => {
             let n = wording::accepted(&mut page, 0, a.length, a.work, a.inferences);
             if let Some(certificate) = out.get(..a.length) {
-                told_accepted(rt, &page, n, certificate, print, keep)?;
+                told_accepted(rt, &page, n, certificate, r)?;
             }
             Ok(())
         }
-        Err(r) => {
-            let n = wording::fails(&mut page, 0, sheet, r.0.number(), r.1);
+        Err(refusal) => {
+            let n = wording::fails(&mut page, 0, sheet, refusal.0.number(), refusal.1);
             say(&mut io::writer(rt), &page, n)?;
-            in_phrase(rt, sheet, r)
+            in_phrase(rt, sheet, refusal)
         }
     }
 }
@@ -328,28 +314,30 @@ fn told_accepted(
     page: &[u8],
     n: usize,
     certificate: &[u8],
-    print: bool,
-    keep: Option<u8>,
+    r: &Request,
 ) -> io::Result<()> {
-    if is_kept(rt, certificate, keep) {
+    if is_kept(rt, certificate, r.keep) {
         say(&mut io::writer(rt), page, n)?;
-        if print {
-            in_decimal(&mut io::writer(rt), certificate)?;
-        }
-        return Ok(());
+        return printed(rt, certificate, r);
     }
-    trouble(rt, wording::UNKEPT, 0, 0)
+    trouble(rt, Obstacle::Unkept, 0, 0)
+}
+
+// An accepted certificate in decimal, as asked.
+fn printed(rt: &impl Print, certificate: &[u8], r: &Request) -> io::Result<()> {
+    if r.print == Some(b'd') {
+        in_decimal(&mut io::writer(rt), certificate)?;
+    }
+    Ok(())
 }
 
 // Whether a certificate is kept, as asked.
 fn is_kept(rt: &impl Files, certificate: &[u8], keep: Option<u8>) -> bool {
-    if keep == Some(b'b') {
-        return keep_bytes(rt, certificate).is_ok();
+    match keep {
+        Some(b'b') => keep_bytes(rt, certificate).is_ok(),
+        Some(b't') => keep_decimal(rt, certificate).unwrap_or(false),
+        _ => true,
     }
-    if keep == Some(b't') {
-        return keep_decimal(rt, certificate).unwrap_or(false);
-    }
-    true
 }
 
 // Keeps a certificate as bytes.
@@ -410,7 +398,7 @@ fn row(rt: &impl Print, names: &[u32], phrases: &[u32], props: usize, k: usize) 
 }
 
 // The check of a certificate.
-fn check(rt: &impl Print, sheet: &[u8], certificate: &[u8], print: bool) -> io::Result<()> {
+fn check(rt: &impl Print, sheet: &[u8], certificate: &[u8], r: &Request) -> io::Result<()> {
     let mut names = [0u32; checker::NAMES];
     let mut forms = [0u32; checker::FORMS];
     let mut patterns = [0u32; checker::PATTERNS];
@@ -425,7 +413,7 @@ fn check(rt: &impl Print, sheet: &[u8], certificate: &[u8], print: bool) -> io::
         &mut phrases,
         &mut base,
     );
-    told(rt, sheet, certificate, checked, print)
+    told(rt, sheet, certificate, checked, r)
 }
 
 // What a check answered; a certificate that stands is printed as asked.
@@ -434,23 +422,21 @@ fn told(
     sheet: &[u8],
     certificate: &[u8],
     checked: Result<Stands, Refusal>,
-    print: bool,
+    r: &Request,
 ) -> io::Result<()> {
     let mut page = [0u8; PAGE];
     match checked {
         Ok(c) => {
             let n = wording::stands(&mut page, 0, certificate.len(), c.conclusion, c.inferences);
             say(&mut io::writer(rt), &page, n)?;
-            if print {
-                in_decimal(&mut io::writer(rt), certificate)?;
-            }
+            printed(rt, certificate, r)
         }
-        Err(r) => {
-            let n = wording::falls(&mut page, 0, sheet, certificate, r.0.number(), r.1);
+        Err(Refusal(why, place)) => {
+            let n = wording::falls(&mut page, 0, sheet, certificate, why.number(), place);
             say(&mut io::writer(rt), &page, n)?;
+            Ok(())
         }
     }
-    Ok(())
 }
 
 // A certificate's bytes in decimal; whether the page has them whole.
@@ -462,14 +448,14 @@ fn in_decimal(to: &mut impl Write, certificate: &[u8]) -> io::Result<bool> {
 
 // The input ends within a request; no other follows.
 fn cut_short(rt: &impl Print) -> io::Result<bool> {
-    trouble(rt, wording::NO_REQUEST, 0, 0)?;
+    trouble(rt, Obstacle::NoRequest, 0, 0)?;
     Ok(false)
 }
 
 // What keeps a request from being answered.
-fn trouble(rt: &impl Print, which: usize, line: usize, column: usize) -> io::Result<()> {
+fn trouble(rt: &impl Print, which: Obstacle, line: usize, column: usize) -> io::Result<()> {
     let mut page = [0u8; PAGE];
-    let n = wording::trouble(&mut page, 0, which, line, column);
+    let n = wording::trouble(&mut page, 0, which as usize, line, column);
     say(&mut io::writer(rt), &page, n)?;
     Ok(())
 }

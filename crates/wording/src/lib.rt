@@ -9,30 +9,29 @@ ghost use Rattle.wording.specs.Answers.{accepted_text, stands_text, refused_text
 ghost use Rattle.wording.specs.Decimals.{unread as decimals_unread, Reads};
 
 use language::{Inferences, Why, Work};
-use records::{phrase_kind, rows};
+use records::{PhraseKind, rows};
 
 pub mod decimals;
 pub mod page;
 mod tables;
 pub mod template;
 
-// What keeps a request from being answered, by its number. A character in the sheet's text is neither a digit nor white space.
-pub const STRAY_IN_SHEET: usize = 0;
-
-// A number in the sheet's text is over 255.
-pub const OVER_IN_SHEET: usize = 1;
-
-// A character in the certificate's text is neither a digit nor white space.
-pub const STRAY_IN_CERTIFICATE: usize = 2;
-
-// A number in the certificate's text is over 255.
-pub const OVER_IN_CERTIFICATE: usize = 3;
-
-// The request is none, or is cut short.
-pub const NO_REQUEST: usize = 4;
-
-// The certificate can't be kept.
-pub const UNKEPT: usize = 5;
+// What keeps a request from being answered, by its number.
+#[derive(Clone, Copy, PartialEq, Eq)]
+pub enum Obstacle {
+    // A character in the sheet's text is neither a digit nor white space.
+    StrayInSheet = 0,
+    // A number in the sheet's text is over 255.
+    OverInSheet = 1,
+    // A character in the certificate's text is neither a digit nor white space.
+    StrayInCertificate = 2,
+    // A number in the certificate's text is over 255.
+    OverInCertificate = 3,
+    // The request is none, or is cut short.
+    NoRequest = 4,
+    // The certificate can't be kept.
+    Unkept = 5,
+}
 
 // The refusals whose place is a byte are the numbers from one to the other, and those of a certificate's bytes, which are more.
 const BYTES_END: usize = Why::BytesEnd as usize;
@@ -267,7 +266,7 @@ fn facts_of(row: &[u32], names: &[u32]) -> [usize; rows::PHRASE]
 fn operand(row: &[u32], names: &[u32]) -> usize
     ensures { result ≡ answers_operand row.now names.now }
 {
-    if words::at(row, 0) == phrase_kind::PROPOSITION {
+    if words::at(row, 0) == PhraseKind::Proposition as usize {
         return first_at(names, words::at(row, 1));
     }
     words::at(row, 1)

@@ -1,43 +1,52 @@
--- At each return the kind says which parts the record has.
+-- In each arm the kind says which parts the record has.
+use mathlib.Core.Path.{ap, ◌∙◌}
+use native.Mathlib.Omega.{arith}
+use Rattle.forms.specs.KindNumbers.{kind_number}
+use Rattle.forms.proofs.KindNumbers.{truth_between, joined_above}
 use Rattle.certificates.proofs.Pieces.{kind_fits, atom_fits, atom_emitted, plain_emitted, first_fits, neg_emitted, second_fits, bin_emitted}
 use Rattle.certificates.proofs.emit_record.Goals as goal
 
-pub number-requires : goal.number-requires
-number-requires g c = kind_fits _ _ _ _ _ _ c.kind_of-kind.ensures c.requires
+pub number-requires-2 : goal.number-requires-2
+number-requires-2 g c = kind_fits _ _ _ _ _ _ (c.number.ensures ∙ c.of_word-kind.ensures) c.requires
 
-pub number-requires-then-kind-eq-ATOM : goal.number-requires-then-kind-eq-ATOM
-number-requires-then-kind-eq-ATOM g c =
-    atom_fits _ _ _ _ _ _ c.kind_of-kind.ensures c.requires _ _ c.number.ensures.emitted _ c.left_of.ensures c.if-kind-eq-ATOM.true
+pub number-requires-in-Atom : goal.number-requires-in-Atom
+number-requires-in-Atom g c =
+    atom_fits _ _ _ _ _ _ (c.number.ensures ∙ c.of_word-kind.ensures) c.requires _ _ c.number-2.ensures.emitted _ c.left_of.ensures (c.number.ensures ∙ ap kind_number c.in-Atom.is)
 
-pub returns-then-kind-eq-ATOM-clause-emitted : goal.returns-then-kind-eq-ATOM-clause-emitted
-returns-then-kind-eq-ATOM-clause-emitted g c =
-    atom_emitted _ _ _ _ _ _ c.kind_of-kind.ensures c.requires _ _ c.number.ensures.emitted _ _ _ c.left_of.ensures c.if-kind-eq-ATOM.true c.number-then-kind-eq-ATOM.ensures.emitted
+pub returns-in-Atom-clause-emitted : goal.returns-in-Atom-clause-emitted
+returns-in-Atom-clause-emitted g c =
+    atom_emitted _ _ _ _ _ _ (c.number.ensures ∙ c.of_word-kind.ensures) c.requires _ _ c.number-2.ensures.emitted _ _ _ c.left_of.ensures (c.number.ensures ∙ ap kind_number c.in-Atom.is) c.number-in-Atom.ensures.emitted
 
-pub returns-then-kind-lt-NOT-clause-emitted : goal.returns-then-kind-lt-NOT-clause-emitted
-returns-then-kind-lt-NOT-clause-emitted g c =
-    plain_emitted _ _ _ _ _ _ c.kind_of-kind.ensures c.requires _ _ c.number.ensures.emitted c.if-kind-eq-ATOM.false c.if-kind-lt-NOT.true
+pub returns-in-True-clause-emitted : goal.returns-in-True-clause-emitted
+returns-in-True-clause-emitted g c =
+    let t = truth_between _ c.in-True.is in
+    let e = c.number.ensures in
+    plain_emitted _ _ _ _ _ _ (e ∙ c.of_word-kind.ensures) c.requires _ _ c.number-2.ensures.emitted (omega (arith, e, t.0)) (omega (arith, e, t.1))
 
 pub emit_place-requires : goal.emit_place-requires
 emit_place-requires g c =
-    first_fits _ _ _ _ _ _ c.kind_of-kind.ensures c.requires _ _ c.number.ensures.emitted c.if-kind-lt-NOT.false _ c.left_of-2.ensures
+    let e = c.number.ensures ∙ ap kind_number c.in-Not.is in
+    first_fits _ _ _ _ _ _ (c.number.ensures ∙ c.of_word-kind.ensures) c.requires _ _ c.number-2.ensures.emitted (omega (arith, e)) _ c.left_of-in-Not.ensures
 
-pub returns-then-kind-eq-NOT-clause-emitted : goal.returns-then-kind-eq-NOT-clause-emitted
-returns-then-kind-eq-NOT-clause-emitted g c =
-    let kind_of = c.kind_of-kind in
-    let number = c.number in
-    neg_emitted _ _ _ _ _ _ kind_of.ensures c.requires _ _ number.ensures.emitted c.if-kind-lt-NOT.false _ c.left_of-2.ensures _ _ c.emit_place.ensures.emitted c.if-kind-eq-NOT.true
+pub returns-in-Not-clause-emitted : goal.returns-in-Not-clause-emitted
+returns-in-Not-clause-emitted g c =
+    let e = c.number.ensures ∙ ap kind_number c.in-Not.is in
+    neg_emitted _ _ _ _ _ _ (c.number.ensures ∙ c.of_word-kind.ensures) c.requires _ _ c.number-2.ensures.emitted (omega (arith, e)) _ c.left_of-in-Not.ensures _ _ c.emit_place.ensures.emitted e
 
-pub emit_place-requires-2 : goal.emit_place-requires-2
-emit_place-requires-2 g c =
-    let kind_of = c.kind_of-kind in
-    let number = c.number in
-    let left-of = c.left_of-2 in
-    second_fits _ _ _ _ _ _ kind_of.ensures c.requires _ _ number.ensures.emitted c.if-kind-lt-NOT.false _ left-of.ensures _ _ c.emit_place.ensures.emitted c.if-kind-eq-NOT.false _ c.right_of.ensures
+pub emit_place-requires-in-And : goal.emit_place-requires-in-And
+emit_place-requires-in-And g c =
+    let e = c.number.ensures in
+    let two = joined_above _ c.in-And.is in
+    first_fits _ _ _ _ _ _ (e ∙ c.of_word-kind.ensures) c.requires _ _ c.number-2.ensures.emitted (omega (arith, e, two)) _ c.left_of-in-And.ensures
 
-pub returns-clause-emitted : goal.returns-clause-emitted
-returns-clause-emitted g c =
-    let kind_of = c.kind_of-kind in
-    let number = c.number in
-    let left-of = c.left_of-2 in
-    let first = c.emit_place in
-    bin_emitted _ _ _ _ _ _ kind_of.ensures c.requires _ _ number.ensures.emitted c.if-kind-lt-NOT.false _ left-of.ensures _ _ first.ensures.emitted c.if-kind-eq-NOT.false _ c.right_of.ensures _ _ c.emit_place-2.ensures.emitted
+pub emit_place-requires-in-And-2 : goal.emit_place-requires-in-And-2
+emit_place-requires-in-And-2 g c =
+    let e = c.number.ensures in
+    let two = joined_above _ c.in-And.is in
+    second_fits _ _ _ _ _ _ (e ∙ c.of_word-kind.ensures) c.requires _ _ c.number-2.ensures.emitted (omega (arith, e, two)) _ c.left_of-in-And.ensures _ _ c.emit_place-in-And.ensures.emitted (omega (arith, e, two)) _ c.right_of.ensures
+
+pub returns-in-And-clause-emitted : goal.returns-in-And-clause-emitted
+returns-in-And-clause-emitted g c =
+    let e = c.number.ensures in
+    let two = joined_above _ c.in-And.is in
+    bin_emitted _ _ _ _ _ _ (e ∙ c.of_word-kind.ensures) c.requires _ _ c.number-2.ensures.emitted (omega (arith, e, two)) _ c.left_of-in-And.ensures _ _ c.emit_place-in-And.ensures.emitted (omega (arith, e, two)) _ c.right_of.ensures _ _ c.emit_place-in-And-2.ensures.emitted

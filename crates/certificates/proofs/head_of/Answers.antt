@@ -1,25 +1,32 @@
--- The first token tells the kind of node.
-use native.Mathlib.Omega.{arith}
-use Prim.Native.Nat.{ℕ, zero, suc, ◌≤◌}
+-- The first token tells the node.
+use Prim.Native.Nat.{ℕ, zero, suc}
 use mathlib.Core.Path.{◌≡◌, refl}
-use borrow.Author.Rules.{rules}
+use native.Mathlib.Omega.{arith}
+use lib.ListN.{get_or}
+use Rattle.language.specs.Rules.{arity}
+use Rattle.language.specs.RuleNumbers.{node_of}
+use Rattle.language.specs.declared.node.Node.{Node}
+use Rattle.language.specs.declared.node.Node.TheVariants.{Rule, Sequence, Hypothesis}
 use Rattle.certificates.specs.declared.Head.{Head}
 use Rattle.certificates.specs.Emitted.{head_by}
 use Rattle.certificates.proofs.head_of.Goals as goal
 
-other : (x y : ℕ) → 2 ≤ x → ◌≡◌ {A = Head} (record { width = 1; names = 1; rules = record { 0 = 0 } }) (head_by x y)
-unfolding head_by
-other zero y h = absurd (omega arith)
-other (suc zero) y h = absurd (omega arith)
-other (suc (suc x)) y h = refl
+abbrev head_at : Node → ℕ → Head
+head_at Rule y = record { width = 2; names = get_or arity y 0; rules = record { 0 = 1 } }
+head_at Sequence y = record { width = 1; names = 0; rules = record { 0 = 0 } }
+head_at Hypothesis y = record { width = 1; names = 1; rules = record { 0 = 0 } }
 
-pub returns-in-0 : goal.returns-in-0
+heads : (x y : ℕ) → head_by x y ≡ head_at (node_of x) y
 unfolding head_by
-returns-in-0 c = rw (← c.at.ensures, c.in-0.is) (rw (c.arguments.ensures, c.at-in-0.ensures) refl, omega arith, omega arith, omega arith)
+heads zero y = refl
+heads (suc zero) y = refl
+heads (suc (suc x)) y = refl
 
-pub returns-in-1 : goal.returns-in-1
-unfolding head_by
-returns-in-1 c = rw (← c.at.ensures, c.in-1.is) (refl, omega arith, omega arith, omega arith)
+pub returns-in-Rule : goal.returns-in-Rule
+returns-in-Rule c = rw (heads, ← c.at.ensures, ← c.of.ensures, c.in-Rule.is) (rw (c.arguments.ensures, c.at-in-Rule.ensures), omega arith, omega arith, omega arith)
 
-pub returns-in_default : goal.returns-in_default
-returns-in_default c = let h : 2 ≤ c.at.result = search rules in (rw (← c.at.ensures) (other _ _ h), omega arith, omega arith, omega arith)
+pub returns-in-Sequence : goal.returns-in-Sequence
+returns-in-Sequence c = rw (heads, ← c.at.ensures, ← c.of.ensures, c.in-Sequence.is) (refl, omega arith, omega arith, omega arith)
+
+pub returns-in-Hypothesis : goal.returns-in-Hypothesis
+returns-in-Hypothesis c = rw (heads, ← c.at.ensures, ← c.of.ensures, c.in-Hypothesis.is) (refl, omega arith, omega arith, omega arith)

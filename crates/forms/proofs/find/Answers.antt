@@ -1,7 +1,7 @@
 -- The words passed so far are not the one that is sought.
 use mathlib.Core.Path.{◌∙◌, sym}
 use Rattle.std.proofs.Common.{length-take}
-use Rattle.forms.proofs.Interning.{passed_none, passed_hit, passed_more, passed_all}
+use Rattle.forms.proofs.Interning.{passed_hit, passed_more, passed_all}
 use Rattle.forms.proofs.find.Goals as goal
 
 pub returns-then-at-w : goal.returns-then-at-w

@@ -15,5 +15,5 @@ evaluate-requires g c =
     let phrases-kept = kept.phrases in
     let first = c.at.ensures in
     let inside = c.if-c-k.false in
-    let low = c.if-at-ge-METHOD_CALL.false in
+    let low = c.if-at.false in
     phrase_ready _ _ _ _ _ _ _ _ _ _ _ _ _ _ read_sheet.ensures c.in-Ok.is (omega arith) patterns-kept (omega arith) phrases-kept (omega arith) c.requires.5 _ (omega arith) (omega arith)

@@ -7,7 +7,7 @@ use Rattle.reader.proofs.Filling.{members_refused, members_read}
 use Rattle.reader.proofs.parts.base.Goals as goal
 
 pub members-requires : goal.members-requires
-members-requires c = let h = (from_got _ _ _ _ 0 64 (sym c.in-Ok.ensures)).to_top in let l = c.requires.1 in (c.requires.0, omega arith)
+members-requires c = let h = (from_got _ _ _ _ 0 64 (sym c.in-Ok.ensures)).to_top in let l = c.requires in omega arith
 
 pub returns-in-Ok : goal.returns-in-Ok
 unfolding part_four

@@ -10,7 +10,7 @@ pub loop-i-preserved : goal.loop-i-preserved
 loop-i-preserved c = at_more _ _ _ _ _ _ _ _ _ c.loop-i.invariant _ _ c.loop-i-test.true c.read_pattern.ensures _ (search rules) c.in-Ok.is
 
 pub returns-in-Err : goal.returns-in-Err
-returns-in-Err c = at_refused _ _ _ _ _ _ _ _ _ c.loop-i.invariant _ _ c.loop-i-test.true c.read_pattern.ensures _ c.requires.1 c.in-Err.is
+returns-in-Err c = at_refused _ _ _ _ _ _ _ _ _ c.loop-i.invariant _ _ c.loop-i-test.true c.read_pattern.ensures _ c.requires.0 c.in-Err.is
 
 pub returns : goal.returns
-returns c = at_end _ _ _ _ _ _ _ _ _ c.loop-i.invariant c.requires.1 c.loop-i-test.false
+returns c = at_end _ _ _ _ _ _ _ _ _ c.loop-i.invariant c.requires.0 c.loop-i-test.false

@@ -6,7 +6,7 @@ use Rattle.reader.proofs.Filling.{count_refused, count_read}
 use Rattle.reader.proofs.parts.patterns.Goals as goal
 
 pub pattern_rows-requires : goal.pattern_rows-requires
-pattern_rows-requires c = (c.requires.0, (from_got _ _ _ _ 0 128 (sym c.in-Ok.ensures)).to_top, c.requires.1)
+pattern_rows-requires c = ((from_got _ _ _ _ 0 128 (sym c.in-Ok.ensures)).to_top, c.requires)
 
 pub returns-in-Ok : goal.returns-in-Ok
 unfolding part_two

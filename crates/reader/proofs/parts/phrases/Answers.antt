@@ -6,7 +6,7 @@ use Rattle.reader.proofs.Filling.{count_refused, count_read}
 use Rattle.reader.proofs.parts.phrases.Goals as goal
 
 pub phrase_rows-requires : goal.phrase_rows-requires
-phrase_rows-requires c = (c.requires.0, c.requires.1, (from_got _ _ _ _ 1 512 (sym c.in-Ok.ensures)).to_top, c.requires.2)
+phrase_rows-requires c = (c.requires.0, (from_got _ _ _ _ 1 512 (sym c.in-Ok.ensures)).to_top, c.requires.1)
 
 pub returns-in-Ok : goal.returns-in-Ok
 unfolding part_three

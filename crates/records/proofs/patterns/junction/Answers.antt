@@ -21,23 +21,23 @@ returns-in_err-right c =
     rw (e.1, e.2) (rw (rows_long, ← c.in_ok-left.ensures, ← c.in_err-right.ensures))
 
 pub cell-requires : goal.cell-requires
-cell-requires c = ((below_got _ _ _ _ _ (sym c.in_ok-left.ensures)).low, c.requires.n_bound.0, omega arith)
+cell-requires c = ((below_got _ _ _ _ _ (sym c.in_ok-left.ensures)).low, c.requires.n_bound, omega arith)
 
 pub cell-requires-2 : goal.cell-requires-2
-cell-requires-2 c = ((below_got _ _ _ _ _ (sym c.in_ok-right.ensures)).low, c.requires.n_bound.0, omega arith)
+cell-requires-2 c = ((below_got _ _ _ _ _ (sym c.in_ok-right.ensures)).low, c.requires.n_bound, omega arith)
 
 pub cell-requires-3 : goal.cell-requires-3
-cell-requires-3 c = ((below_got _ _ _ _ _ (sym c.in_ok-left.ensures)).low, c.requires.n_bound.0, omega arith)
+cell-requires-3 c = ((below_got _ _ _ _ _ (sym c.in_ok-left.ensures)).low, c.requires.n_bound, omega arith)
 
 pub cell-requires-4 : goal.cell-requires-4
-cell-requires-4 c = ((below_got _ _ _ _ _ (sym c.in_ok-right.ensures)).low, c.requires.n_bound.0, omega arith)
+cell-requires-4 c = ((below_got _ _ _ _ _ (sym c.in_ok-right.ensures)).low, c.requires.n_bound, omega arith)
 
 pub small-requires : goal.small-requires
 small-requires c =
     let h = (below_got _ _ _ _ _ (sym c.in_ok-left.ensures)).low in
     let g = (below_got _ _ _ _ _ (sym c.in_ok-right.ensures)).low in
     let l = c.requires.n_bound in
-    record { row_value = c.requires.row_value; kind_bound = (omega arith, omega arith, omega arith) }
+    record { row_value = c.requires.row_value; parts_bound = (omega arith, omega arith) }
 
 pub returns : goal.returns
 unfolding junction_row then

@@ -24,7 +24,7 @@ pub small-requires : goal.small-requires
 small-requires c =
     let h = (below_got _ _ _ _ _ (sym c.in_ok-left.ensures)).low in
     let l = c.requires.n_bound in
-    record { row_value = c.requires.row_value; kind_bound = (omega arith, omega arith, omega arith) }
+    record { row_value = c.requires.row_value; parts_bound = (omega arith, omega arith) }
 
 pub returns : goal.returns
 unfolding negation_row then

@@ -21,4 +21,4 @@ returns c =
     let put2 = c.put-2 in
     let put3 = c.put-3 in
     let put4 = c.put-4 in
-    simp (le-leb _ _ if1.false, le-leb _ _ if2.false, c.put-5.ensures, put4.ensures, put3.ensures, put2.ensures, put.ensures, c.requires.row_value)
+    simp (le-leb _ _ if1.false, le-leb _ _ if2.false, c.put-5.ensures, put4.ensures, put3.ensures, put2.ensures, put.ensures, c.number.ensures, c.requires.row_value)

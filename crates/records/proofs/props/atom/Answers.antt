@@ -8,7 +8,7 @@ use Rattle.records.specs.Operands.{atom_word}
 use Rattle.records.proofs.props.atom.Goals as goal
 
 pub word-requires : goal.word-requires
-word-requires c = let h = (from_got _ _ _ _ 0 255 (sym c.in_ok-a.ensures)).to_top in (omega arith, omega arith, omega arith)
+word-requires c = let h = (from_got _ _ _ _ 0 255 (sym c.in_ok-a.ensures)).to_top in (omega arith, omega arith)
 
 pub returns-in_err-a : goal.returns-in_err-a
 unfolding atom_word then

@@ -20,7 +20,7 @@ returns-in_err-q c =
 
 pub word-requires : goal.word-requires
 word-requires c =
-    let low = c.requires.names.low in (c.requires.k_bound, name_low _ _ _ _ _ low (sym c.in_ok-p.ensures.0), name_low _ _ _ _ _ low (sym c.in_ok-q.ensures.0))
+    let low = c.requires.low in (name_low _ _ _ _ _ low (sym c.in_ok-p.ensures.0), name_low _ _ _ _ _ low (sym c.in_ok-q.ensures.0))
 
 pub returns : goal.returns
 unfolding junction_word then

@@ -14,7 +14,7 @@ returns-in_err-p c =
     rw (e.1, e.2) (rw (← c.in_err-p.ensures.0), tt)
 
 pub word-requires : goal.word-requires
-word-requires c = let h = name_low _ _ _ _ _ c.requires.low (sym c.in_ok-p.ensures.0) in (omega arith, h, omega arith)
+word-requires c = let h = name_low _ _ _ _ _ c.requires.low (sym c.in_ok-p.ensures.0) in (h, omega arith)
 
 pub returns : goal.returns
 unfolding negation_word then

@@ -1,0 +1,3 @@
+-- things by their numbers: in general, and rules
+pub mod Numbering
+pub mod RuleNumbers

@@ -1,0 +1,30 @@
+-- A refusal is handed on; else the three numbers are stored in a row of zeros.
+use mathlib.Core.Path.{sym}
+use Rattle.language.specs.Numbers.{then}
+use Rattle.std.proofs.lemmas.Result.{err_from_is_err_and}
+use Rattle.records.specs.Rows.{phrase_cells}
+use Rattle.records.specs.Reading.{pair_row}
+use Rattle.phrases.proofs.OperandRuns.{operand_fits}
+use Rattle.phrases.proofs.before.Before.two.Goals as goal
+
+pub returns-in_err-x : goal.returns-in_err-x
+unfolding pair_row then
+returns-in_err-x c =
+    let e = err_from_is_err_and c.from_residual.result c.from_residual.ensures.1 in
+    rw (e.1, e.2) (rw (← c.in_err-x.ensures))
+
+pub returns-in_err-y : goal.returns-in_err-y
+unfolding pair_row then
+returns-in_err-y c =
+    let e = err_from_is_err_and c.from_residual-in_err-y.result c.from_residual-in_err-y.ensures.1 in
+    rw (e.1, e.2) (rw (← c.in_ok-x.ensures, ← c.in_err-y.ensures))
+
+pub put-requires-2 : goal.put-requires-2
+put-requires-2 c = operand_fits _ _ _ c.args.self.few_phrases _ _ _ _ (sym c.in_ok-x.ensures)
+
+pub put-requires-3 : goal.put-requires-3
+put-requires-3 c = operand_fits _ _ _ c.args.self.few_phrases _ _ _ _ (sym c.in_ok-y.ensures)
+
+pub returns : goal.returns
+unfolding pair_row then phrase_cells
+returns c = rw (← c.in_ok-x.ensures, ← c.in_ok-y.ensures, c.put-3.ensures, c.put-2.ensures, c.put.ensures, c.requires.row_value)
