@@ -15,6 +15,7 @@ records = record {
   pattern_kind_pattern_kind_of = λ κs a z z' ws ws' x y. (x ∙ sym y, refl);
   pattern_kind_pattern_kind_number = λ κs a z z' ws ws' x y. (x ∙ sym y, refl);
   phrase_kind_phrase_kind_of = λ κs a z z' ws ws' x y. (x ∙ sym y, refl);
+  phrase_kind_phrase_kind_number = λ κs a z z' ws ws' x y. (x ∙ sym y, refl);
   patterns_read_pattern = λ κs a z z' ws ws' x y. let (e, f) = put_once _ _ z z' _ _ _ _ x y in (e, pair f refl);
   rows_lay = λ κs a z z' ws ws' x y. (refl, pair (x ∙ sym y) refl);
 }

@@ -25,6 +25,7 @@ use Rattle.std.specs.Prelude.{Result, Err}
 use Rattle.language.specs.declared.refusal.Refusal.{Refusal}
 use Rattle.language.specs.declared.refusal.Why.TheVariants.{BytesEnd, OutputShort}
 use Rattle.theorems.proofs.Lists.{clash}
+use Rattle.theorems.proofs.Refusals.{why_of}
 use Rattle.doors.specs.Wrong.{Evaluator, RefusesEverything, EmitsTrueIntro, WritesNothing, SpendsTheBudget, InfersItsWork, LeavesEvaluationScratch, RunsFirstStep, BelievesAnnounced, WritesWhatFits, AcceptsWhatIsThere, Evaluating, Checker, AcceptsAll, RefusesAll, IgnoresBase, IgnoresConclusion, CountsNone, LeavesCheckScratch}
 
 -- bytes end before a number; and an output that is too short
@@ -103,7 +104,7 @@ fitter_writes_what_fits s budget n w i (a ∷ (b ∷ cs)) (x ∷ (y ∷ zs)) bs�
 -- it runs a block's first step, and accepts with what that derives
 unfoldable pub ran : Out Derived → List ℕ → List (List ℕ) → Evaluating
 ran (out d w) out₀ bs₀ = record { answer = accepted_with 0 (record { 0 = 0 }) (record { 0 = 0 }); output = fronted (certificate d) out₀; scratch = bs₀ }
-ran (stop n k) out₀ bs₀ = record { answer = Err (record { 0 = BytesEnd; 1 = k }); output = out₀; scratch = bs₀ }
+ran (stop n k) out₀ bs₀ = record { answer = Err (record { 0 = why_of n; 1 = k }); output = out₀; scratch = bs₀ }
 
 unfoldable pub begun : Sheet → ℕ → Phrase → List ℕ → List (List ℕ) → Evaluating
 begun S budget (dedu (block j js)) out₀ bs₀ = ran (deduce S.phrases 63 empty S.base j budget) out₀ bs₀
@@ -158,7 +159,7 @@ unfoldable pub kept : Answer → List ℕ → List (List ℕ) → Evaluating
 unfolding pick
 kept (accepted bytes w i) out₀ bs₀ =
     record { answer = pick (begins bytes out₀) (accepted_with (length bytes) (record { 0 = w }) (record { 0 = i })) (Err short); output = out₀; scratch = bs₀ }
-kept (refused n p) out₀ bs₀ = record { answer = Err (record { 0 = BytesEnd; 1 = p }); output = out₀; scratch = bs₀ }
+kept (refused n p) out₀ bs₀ = record { answer = Err (record { 0 = why_of n; 1 = p }); output = out₀; scratch = bs₀ }
 
 abbrev keeper : Evaluator
 keeper s budget out₀ bs₀ = kept (answer s budget (length out₀)) out₀ bs₀

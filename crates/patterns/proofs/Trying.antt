@@ -1,15 +1,17 @@
 -- Trying a pattern: one law for each return. The row says which pattern it is, the word which proposition, and their parts are tried in turn.
 use Rattle.std.specs.Prelude.{Option, Some, None}
 use Prim.Native.Nat.{ℕ, zero, suc, ◌+◌, ◌*◌, ◌≤◌, ◌<◌}
-use mathlib.Core.Path.{◌≡◌, refl, sym, ap, subst, ◌∙◌}
-use mathlib.Core.Bool.{Bool, true, false}
+use mathlib.Core.Path.{◌≡◌, refl, sym, ap, ap₂, subst, ◌∙◌}
+use mathlib.Core.Bool.{Bool, true, false, not}
+use denote.Enum.Bare.{sameb}
+use denote.Enum.Declared.{tag_of}
 use mathlib.Core.List.{List, [], ◌∷◌, ◌++◌, map-append}
 use mathlib.Core.Option.{Option as Maybe, some, none}
 use native.Mathlib.Omega.{arith}
 use native.Mathlib.Decide.{ℕ_discrete as dec_eq}
 use lib.ListN.{length, get_or, take, length-append}
 use lib.Dec.{eqb}
-use borrow.Author.Tests.{eqb-true, eq-eqb}
+use borrow.Author.Tests.{eqb-true, eq-eqb, not-true, not-false}
 use Rattle.language.specs.Form.{Conn, Form}
 use Rattle.language.specs.Syntax.{Pattern, any, exactly, neg_p, bin_p}
 use Rattle.language.specs.Numbers.{pick}
@@ -19,13 +21,20 @@ use Rattle.forms.specs.Word.{kind, left, right, code}
 use Rattle.forms.specs.Table.{tree, Row}
 use Rattle.forms.proofs.Trees.{same_at}
 use Rattle.records.specs.Rows.{cell, pattern_of, pattern_by}
-use Rattle.records.specs.PatternNumbers.{pattern_kind_of}
+use Rattle.forms.specs.KindNumbers.{kind_number}
+use Rattle.forms.specs.contracts.kind.Kind.{the_type as kind_type}
+use Rattle.forms.specs.declared.kind.Kind.{Kind}
+use Rattle.forms.specs.declared.kind.Kind.TheVariants as kinds
+use Rattle.records.specs.PatternNumbers.{pattern_kind_of, pattern_number}
+use Rattle.records.specs.contracts.pattern_kind.PatternKind.{the_type as pattern_type}
+use Rattle.records.specs.declared.pattern_kind.PatternKind.{PatternKind}
+use Rattle.records.specs.declared.pattern_kind.PatternKind.TheVariants.{Any, Exactly, Not, And, Or, If, Iff}
 use Rattle.records.proofs.PatternNumbers.{none_found}
 use Rattle.theorems.proofs.Lists.{all_append, clash}
 use Rattle.reader.specs.Stands.{PatternRow, any_row, exactly_row, not_row, join_row}
 use Rattle.patterns.specs.declared.Parts.{Parts}
 use Rattle.patterns.specs.Parts.{with, extend}
-use Rattle.patterns.specs.Fitting.{Named, Tried, Fitted, FitsSo, same_number, exactly_so}
+use Rattle.patterns.specs.Fitting.{Named, Tried, Fitted, FitsSo, told, exactly_so}
 use Rattle.patterns.proofs.Shapes.{conn_of, joins_by, rec_neg, rec_bin, neg_other, bin_other, neg_same, bin_same}
 use Rattle.patterns.proofs.Extending.{extend_count, extend_extend}
 
@@ -191,6 +200,57 @@ met_so b kw n e f = eqb-true kw n (sym e ∙ f)
 pub unmet_so : (b : Bool) (kw n : ℕ) → b ≡ eqb kw n → b ≡ false → kw ≡ n → ⊥
 unmet_so b kw n e f g = clash (ap (λ (x : Bool). elim x [ true ↦ 1 | false ↦ 0 ]) (sym f ∙ e ∙ eq-eqb kw n g))
 
+-- what `==` of two kinds says of their numbers
+pattern_tag : (k : PatternKind) → tag_of pattern_type k ≡ pattern_number k
+pattern_tag Any = refl
+pattern_tag Exactly = refl
+pattern_tag Not = refl
+pattern_tag And = refl
+pattern_tag Or = refl
+pattern_tag If = refl
+pattern_tag Iff = refl
+
+kind_tag : (k : Kind) → tag_of kind_type k ≡ kind_number k
+kind_tag kinds.Atom = refl
+kind_tag kinds.True = refl
+kind_tag kinds.False = refl
+kind_tag kinds.Not = refl
+kind_tag kinds.And = refl
+kind_tag kinds.Or = refl
+kind_tag kinds.If = refl
+kind_tag kinds.Iff = refl
+
+pub pattern_same : (b : Bool) (k j : PatternKind) → b ≡ sameb pattern_type k j → b ≡ true → pattern_number k ≡ pattern_number j
+pattern_same b k j e = met_so b (pattern_number k) (pattern_number j) (e ∙ ap₂ eqb (pattern_tag k) (pattern_tag j))
+
+pub pattern_other : (b : Bool) (k j : PatternKind) → b ≡ sameb pattern_type k j → b ≡ false → pattern_number k ≡ pattern_number j → ⊥
+pattern_other b k j e = unmet_so b (pattern_number k) (pattern_number j) (e ∙ ap₂ eqb (pattern_tag k) (pattern_tag j))
+
+pub kind_same : (b : Bool) (k j : Kind) → b ≡ not (sameb kind_type k j) → b ≡ false → kind_number k ≡ kind_number j
+kind_same b k j e f = met_so (sameb kind_type k j) (kind_number k) (kind_number j) (ap₂ eqb (kind_tag k) (kind_tag j)) (not-false (sameb kind_type k j) (sym e ∙ f))
+
+pub kind_other : (b : Bool) (k j : Kind) → b ≡ not (sameb kind_type k j) → b ≡ true → kind_number k ≡ kind_number j → ⊥
+kind_other b k j e f = unmet_so (sameb kind_type k j) (kind_number k) (kind_number j) (ap₂ eqb (kind_tag k) (kind_tag j)) (not-true (sameb kind_type k j) (sym e ∙ f))
+
+-- a pattern that is neither any nor exactly has parts
+pub has_parts : (b b' : Bool) (k : PatternKind) → b ≡ sameb pattern_type k Any → b ≡ false → b' ≡ sameb pattern_type k Exactly → b' ≡ false → 2 ≤ pattern_number k
+has_parts b b' k e f e' f' = let x = pattern_other b k Any e f in let y = pattern_other b' k Exactly e' f' in go (pattern_number k) x y
+  where
+    go : (n : ℕ) → (n ≡ 0 → ⊥) → (n ≡ 1 → ⊥) → 2 ≤ n
+    go zero x y = absurd (x refl)
+    go (suc zero) x y = absurd (y refl)
+    go (suc (suc n)) x y = omega arith
+
+-- one that is not a negation either has two
+pub has_two : (b : Bool) (k : PatternKind) → 2 ≤ pattern_number k → b ≡ sameb pattern_type k Not → b ≡ false → 3 ≤ pattern_number k
+has_two b k h e f = let x = pattern_other b k Not e f in go (pattern_number k) h x
+  where
+    go : (n : ℕ) → 2 ≤ n → (n ≡ 2 → ⊥) → 3 ≤ n
+    go zero h x = omega (arith, h)
+    go (suc zero) h x = omega (arith, h)
+    go (suc (suc zero)) h x = absurd (x refl)
+    go (suc (suc (suc n))) h x = omega arith
+
 -- a row's kind is a kind's number
 pub none_fits : (forms patterns : List ℕ) (q p : ℕ) (b : Parts) (k : ℕ) → k ≡ get_or patterns (5 * q) 0 → pattern_kind_of k ≡ None → FitsSo forms patterns q p b None
 none_fits forms patterns q p b k i e = record { meets = λ x. absurd (omega (arith, kind_small forms patterns q p b x k i, none_found k e)) }
@@ -279,6 +339,14 @@ module _ (forms patterns : List ℕ) (q p : ℕ) (b : Parts) (k one w kw l : ℕ
           rw P.0 (fits_on x.trees (get_or x.qs one any) (get_or x.qs q any) f (fits (get_or x.qs one any) (tree x.trees (left w))) (sym (ap binders o.pattern))
           (F'.meets (inner forms patterns q p b x one (left w) b o.low P.1 r)))
 
+  -- a left part that misses, of either
+  pub part_misses : kw ≡ k + 1 → FitsSo forms patterns one l b None → FitsSo forms patterns q p b None
+  part_misses s F = go (dec_eq k 2)
+    where
+      go : Dec (k ≡ 2) → FitsSo forms patterns q p b None
+      go (yes e) = neg_fits None s e F
+      go (no e) = left_misses (omega (arith, e, over)) s F
+
   -- two patterns joined: the right part after what the left part binds
   module _ (two r : ℕ) (i₂ : two ≡ get_or patterns (5 * q + 2) 0) (jr : r ≡ right w) (joins : 3 ≤ k) (s : kw ≡ k + 1) (c : Parts) (F : FitsSo forms patterns one l b (Some c)) where
     k₂ : k ≡ 2 → ⊥
@@ -361,8 +429,8 @@ module _ (forms patterns : List ℕ) (q p : ℕ) (b : Parts) where
     meets = λ x. rw (any_at x (sym i ∙ e)) (p ∷ [], f, record { trees = refl; low = (x.proposition, tt) }, refl);
   }
 
-  exact_by : (fs : List Form) (P : Form) (t : Bool) → Fitted fs (exactly P) b (same_number t b) (pick t (some []) none)
-  unfolding Fitted same_number pick extend binders
+  exact_by : (fs : List Form) (P : Form) (t : Bool) → Fitted fs (exactly P) b (told t b) (pick t (some []) none)
+  unfolding Fitted pick extend binders
   exact_by fs P true = ([], refl, record { trees = refl; low = tt }, refl)
   exact_by fs P false = tt
 

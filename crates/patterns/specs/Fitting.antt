@@ -48,13 +48,14 @@ pub record FitsSo (forms patterns : List ℕ) (q p : ℕ) (before : Parts) (r : 
   pub meets : (x : Tried forms patterns q p before) →
       Fitted x.trees (get_or x.qs q any) before r (fits (get_or x.qs q any) (tree x.trees p))
 
--- exactly the proposition q, by number
-unfoldable pub same_number : Bool → Parts → Option Parts
-same_number true b = Some b
-same_number false b = None
+-- the answer of a test that leaves the parts c
+abbrev pub told : Bool → Parts → Option Parts
+told true c = Some c
+told false c = None
 
+-- exactly the proposition q, by number
 abbrev pub exactly_so : ℕ → ℕ → Parts → Option Parts
-exactly_so q p b = same_number (eqb q p) b
+exactly_so q p b = told (eqb q p) b
 
 -- clauses from a place on, and a proposition
 pub record Offered (forms patterns phrases : List ℕ) (from left p : ℕ) : Type 0 where

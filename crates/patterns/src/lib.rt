@@ -4,11 +4,11 @@
 // What is bound or chosen is what the language's `fits` and `choose` give at the trees that the numbers stand for.
 #![tactic(auto)]
 
-ghost use Rattle.std.specs.Prelude.{◌≡◌, ◌+◌, ◌<◌, ◌≤◌, eqb};
+ghost use Rattle.std.specs.Prelude.{◌≡◌, ◌+◌, ◌<◌, ◌≤◌};
 ghost use Rattle.forms.specs.KindNumbers.{kind_number};
 ghost use Rattle.records.specs.PatternNumbers.{pattern_number};
 ghost use Rattle.patterns.specs.Parts.{none_bound, with};
-ghost use Rattle.patterns.specs.Fitting.{exactly_so, Tried, FitsSo, Offered, ChosenSo};
+ghost use Rattle.patterns.specs.Fitting.{told, Tried, FitsSo, Offered, ChosenSo};
 
 use forms::Kind;
 use records::{PatternKind, rows};
@@ -48,42 +48,56 @@ pub fn tried(forms: &[u32], patterns: &[u32], q: usize, p: usize, before: Parts)
     requires { Tried forms.now patterns.now q p before }
     ensures { FitsSo forms.now patterns.now q p before result }
 {
-    let kind = PatternKind::of(words::at(patterns, rows::PATTERN * q))?;
-    let one = words::at(patterns, rows::PATTERN * q + 1);
-    let w = words::at(forms, p);
-    let met = joins(kind, Kind::of_word(w));
-    match kind {
-        PatternKind::Any => Some(extended(before, p)),
-        PatternKind::Exactly => exact(one, p, before),
-        PatternKind::Not => {
-            if met {
-                tried(forms, patterns, one, forms::left_of(w), before)
-            } else {
-                None
-            }
-        }
-        PatternKind::And | PatternKind::Or | PatternKind::If | PatternKind::Iff => {
-            if !met {
-                return None;
-            }
-            let parts = tried(forms, patterns, one, forms::left_of(w), before)?;
-            let two = words::at(patterns, rows::PATTERN * q + 2);
-            tried(forms, patterns, two, forms::right_of(w), parts)
-        }
+    let mut parts = before;
+    if fits(forms, patterns, q, p, &mut parts) {
+        Some(parts)
+    } else {
+        None
     }
 }
 
-// Whether a pattern of a kind is over the parts of a proposition of a kind, each of not, and, or, if and iff over its own.
-fn joins(pattern: PatternKind, kind: Kind) -> bool
-    ensures { 2 ≤ pattern_number pattern → result ≡ eqb (kind_number kind) (pattern_number pattern + 1) }
+// Whether pattern q fits the proposition p; what it binds is then added to the parts. They are lent: an `Option<Parts>` handed back from each part of
+// the pattern costs twice the time and twice the stack.
+fn fits(forms: &[u32], patterns: &[u32], q: usize, p: usize, parts: &mut Parts) -> bool
+    requires { Tried forms.now patterns.now q p parts.old }
+    ensures { FitsSo forms.now patterns.now q p parts.old (told result parts.new) }
+{
+    let Some(kind) = PatternKind::of(words::at(patterns, rows::PATTERN * q)) else {
+        return false;
+    };
+    let one = words::at(patterns, rows::PATTERN * q + 1);
+    if kind == PatternKind::Any {
+        *parts = extended(*parts, p);
+        return true;
+    }
+    if kind == PatternKind::Exactly {
+        return one == p;
+    }
+    let w = words::at(forms, p);
+    if Kind::of_word(w) != over(kind) {
+        return false;
+    }
+    if !fits(forms, patterns, one, forms::left_of(w), parts) {
+        return false;
+    }
+    if kind == PatternKind::Not {
+        return true;
+    }
+    let two = words::at(patterns, rows::PATTERN * q + 2);
+    fits(forms, patterns, two, forms::right_of(w), parts)
+}
+
+// The kind of proposition over whose parts a pattern's parts are tried: not, and, or, if and iff each over its own; the first two kinds have none.
+fn over(pattern: PatternKind) -> Kind
+    ensures { 2 ≤ pattern_number pattern → kind_number result ≡ pattern_number pattern + 1 }
 {
     match pattern {
-        PatternKind::Any | PatternKind::Exactly => false,
-        PatternKind::Not => kind == Kind::Not,
-        PatternKind::And => kind == Kind::And,
-        PatternKind::Or => kind == Kind::Or,
-        PatternKind::If => kind == Kind::If,
-        PatternKind::Iff => kind == Kind::Iff,
+        PatternKind::Any | PatternKind::Exactly => Kind::Atom,
+        PatternKind::Not => Kind::Not,
+        PatternKind::And => Kind::And,
+        PatternKind::Or => Kind::Or,
+        PatternKind::If => Kind::If,
+        PatternKind::Iff => Kind::Iff,
     }
 }
 
@@ -95,13 +109,6 @@ pub fn nothing() -> Parts
         count: 0,
         all: [0; 4],
     }
-}
-
-// Exactly the proposition q: it fits p where the numbers are equal, and binds nothing.
-fn exact(q: usize, p: usize, before: Parts) -> Option<Parts>
-    ensures { result ≡ exactly_so q p before }
-{
-    if q == p { Some(before) } else { None }
 }
 
 // One proposition more, after those before it. There must be fewer than four.

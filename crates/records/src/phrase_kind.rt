@@ -1,6 +1,6 @@
 // The kinds of a phrase, document 01's: expressions below 16, deductions from there.
 ghost use Rattle.std.specs.Prelude.{◌≡◌};
-ghost use Rattle.records.specs.PhraseNumbers.{phrase_kind_of};
+ghost use Rattle.records.specs.PhraseNumbers.{phrase_number, phrase_kind_of};
 
 // A phrase's kind, by its number.
 #[derive(Clone, Copy, PartialEq, Eq)]
@@ -67,5 +67,12 @@ impl PhraseKind {
             _ => return None,
         };
         Some(kind)
+    }
+
+    // Its number.
+    pub fn number(self) -> usize
+        ensures { result ≡ phrase_number self }
+    {
+        self as usize
     }
 }

@@ -59,11 +59,15 @@ fn digits(line: &[u8], from: usize, to: usize) -> Option<usize>
 {
     let mut v = 0usize;
     for i in from..to {
-        let d = digit(*line.get(i)?)?;
-        if 9 < d {
+        let c = *line.get(i)?;
+        let d = digit(c)?;
+        if b'9' < c {
             return None;
         }
-        v = v.checked_mul(10)?.checked_add(usize::from(d))?;
+        if usize::MAX / 10 < v {
+            return None;
+        }
+        v = (10 * v).checked_add(usize::from(d))?;
     }
     Some(v)
 }

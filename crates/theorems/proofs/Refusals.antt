@@ -22,7 +22,11 @@ by_number =
     BudgetOver ∷ (BudgetOver ∷ (BudgetOver ∷ (BudgetOver ∷ (BudgetOver ∷ (
     BytesEndInCertificate ∷ (NotShortestInCertificate ∷ (OutOfRangeInCertificate ∷ (WrongReferenceInCertificate ∷ (BytesAfterInCertificate ∷ ([]))))))))))))))))))))))))))))))))))))))))
 
-found : (w : Why) → get_or by_number (number_of w) BudgetOver ≡ w
+-- the refusal of a number
+abbrev pub why_of : ℕ → Why
+why_of n = get_or by_number n BudgetOver
+
+found : (w : Why) → why_of (number_of w) ≡ w
 found BudgetOver = refl
 found ScratchShort = refl
 found BytesEnd = refl
@@ -50,7 +54,7 @@ found WrongReferenceInCertificate = refl
 found BytesAfterInCertificate = refl
 
 pub number_once : (w w' : Why) → number_of w ≡ number_of w' → w ≡ w'
-number_once w w' e = sym (found w) ∙ ap (λ (n : ℕ). get_or by_number n BudgetOver) e ∙ found w'
+number_once w w' e = sym (found w) ∙ ap why_of e ∙ found w'
 
 pub refusal_once : (r r' : Refusal) → number_of r.0 ≡ number_of r'.0 → r.1 ≡ r'.1 → r ≡ r'
 refusal_once r r' e f = λ i. (number_once r.0 r'.0 e i, f i)

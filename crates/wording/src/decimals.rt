@@ -124,5 +124,5 @@ fn digit(scan: Scan, c: u8) -> Result<Scan, Fault>
 fn is_white(c: u8) -> bool
     ensures { result ≡ white c }
 {
-    matches!(c, b' ' | b'\t' | b'\n' | b'\r')
+    c == b' ' || c == b'\t' || c == b'\n' || c == b'\r'
 }
