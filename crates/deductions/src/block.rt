@@ -28,7 +28,7 @@ impl<'a> Run<'a> {
             env: self.machine.state.bindings,
             ..site
         };
-        self.deduce(there, d)
+        self.enter(there, d)
     }
 
     // A by: the deduction, then the announced proposition, which must be its conclusion.
@@ -40,7 +40,7 @@ impl<'a> Run<'a> {
     {
         let f = words::at(self.machine.phrases, rows::PHRASE * k + 1);
         let d = words::at(self.machine.phrases, rows::PHRASE * k + 2);
-        let q = self.deduce(site, d)?;
+        let q = self.enter(site, d)?;
         let v = self.machine.evaluate(site.env, f, site.depth)?;
         compare(v, q, k)
     }
@@ -65,7 +65,7 @@ impl<'a> Run<'a> {
     {
         let k = words::at(self.machine.phrases, from);
         if left == 1 {
-            return self.deduce(site, k);
+            return self.enter(site, k);
         }
         let (_, l) = self.either(site, k)?;
         let there = Site {

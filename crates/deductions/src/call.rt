@@ -84,7 +84,7 @@ impl<'a> Run<'a> {
                     return Err(Refusal(Why::WrongCount, k));
                 }
                 let body = words::at(self.machine.phrases, row + 2);
-                self.deduce(site, body)
+                self.enter(site, body)
             }
             Value::Prop(_) | Value::Constructor(_) | Value::Function(_) => {
                 Err(Refusal(Why::WrongKind, k))

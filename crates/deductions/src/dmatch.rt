@@ -47,7 +47,7 @@ impl<'a> Run<'a> {
             ..site
         };
         self.machine.state.bindings = n + parts.count;
-        self.deduce(there, body)
+        self.enter(there, body)
     }
 
     // The first clause of the dmatch k whose pattern fits the proposition p: its body and what the pattern binds.

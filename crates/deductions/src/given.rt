@@ -63,7 +63,7 @@ impl<'a> Run<'a> {
             base: b + 1,
             ..site
         };
-        self.deduce(there, k)
+        self.enter(there, k)
     }
 
     // Not p, where its proof concluded q and q is false; else refusal 16.

@@ -7,7 +7,8 @@
 // refused for want of room (specs/Meets.antt).
 #![tactic(auto)]
 
-ghost use Rattle.std.specs.Prelude.{◌≡◌, ◌<◌, ◌≤◌};
+ghost use Rattle.std.specs.Prelude.{◌≡◌, ◌<◌, ◌≤◌, Err};
+ghost use Rattle.language.specs.declared.refusal.Refusal.{Refusal};
 ghost use Rattle.expressions.specs.Machine.{reads, kind};
 ghost use Rattle.deductions.specs.Machine.{run, Same, out_of, operand_of};
 ghost use Rattle.deductions.specs.Asked.{In, Ready};
@@ -43,9 +44,28 @@ pub struct Site {
 }
 
 impl<'a> Run<'a> {
-    // The deduction k: its conclusion's number; or the refusal.
-    #[cycle(deduction)]
+    // The deduction k: its conclusion's number; or the refusal, and then the counts are as they were.
     pub fn deduce(&mut self, site: Site, k: usize) -> Result<usize, Refusal>
+        requires { Ready (In k) (reads self.old.machine) (run self.old) site.env site.base 0 0 0 0 × (16 ≤ kind self.old.machine.phrases.now k) }
+        ensures same { Same self.old self.new }
+        ensures deduced { Deduced (reads self.old.machine) site.depth site.env site.base k (run self.old) (out_of (run self.new) result) }
+        ensures counts { (r : Refusal) → result ≡ Err r → (self.new.machine.state ≡ self.old.machine.state) × (self.new.written ≡ self.old.written) }
+    {
+        let counts = self.machine.state;
+        let written = self.written;
+        match self.enter(site, k) {
+            Ok(p) => Ok(p),
+            Err(r) => {
+                self.machine.state = counts;
+                self.written = written;
+                Err(r)
+            }
+        }
+    }
+
+    // The same, but for the counts after a refusal.
+    #[cycle(deduction)]
+    fn enter(&mut self, site: Site, k: usize) -> Result<usize, Refusal>
         requires { Ready (In k) (reads self.old.machine) (run self.old) site.env site.base 0 0 0 0 × (16 ≤ kind self.old.machine.phrases.now k) }
         ensures same { Same self.old self.new }
         ensures deduced { Deduced (reads self.old.machine) site.depth site.env site.base k (run self.old) (out_of (run self.new) result) }
@@ -96,7 +116,7 @@ impl<'a> Run<'a> {
             return Ok((v, None));
         }
         self.written = tokens::sequence(self.tokens, self.written);
-        let p = self.deduce(site, k)?;
+        let p = self.enter(site, k)?;
         Ok((Value::Prop(p), Some(p)))
     }
 }

@@ -11,7 +11,7 @@ deductions = record {
   deduce = λ κs a q z z' ws ws' x y.
       let r = q.0 in (
         conclusions_by _ _ r.formed _ (out_of (run ws.0) z) (out_of (run ws'.0) z')
-            (x.1.meets r.text r.formed r.bindings r.basis r.setting r.row) (y.1.meets r.text r.formed r.bindings r.basis r.setting r.row),
+            (x.1.0.meets r.text r.formed r.bindings r.basis r.setting r.row) (y.1.0.meets r.text r.formed r.bindings r.basis r.setting r.row),
         record {
           forms = y.0.forms ∙ sym x.0.forms;
           binds = y.0.binds ∙ sym x.0.binds;

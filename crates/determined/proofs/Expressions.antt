@@ -11,7 +11,7 @@ unfolding Once AnyTwo
 expressions = record {
   evaluate = λ κs a q z z' ws ws' x y. (
     values_by q.text.rows _ q.formed _ (out_of (machine ws.0) z) (out_of (machine ws'.0) z')
-        (x.1.meets q.text q.formed q.bound q.world q.row q.chain) (y.1.meets q.text q.formed q.bound q.world q.row q.chain),
+        (x.1.0.meets q.text q.formed q.bound q.world q.row q.chain) (y.1.0.meets q.text q.formed q.bound q.world q.row q.chain),
     record {
       forms = y.0.forms ∙ sym x.0.forms;
       binds = y.0.binds ∙ sym x.0.binds;

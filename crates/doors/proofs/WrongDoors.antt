@@ -23,9 +23,11 @@ use Rattle.theorems.proofs.Exact.{interpreted, determined}
 use Rattle.theorems.proofs.Accepting.{accepts_exactly}
 use Rattle.std.specs.Prelude.{Result, Err}
 use Rattle.language.specs.declared.refusal.Refusal.{Refusal}
+use Rattle.language.specs.declared.refusal.Why.{Why}
 use Rattle.language.specs.declared.refusal.Why.TheVariants.{BytesEnd, OutputShort}
+use Rattle.language.specs.Numbered.{number_of}
 use Rattle.theorems.proofs.Lists.{clash}
-use Rattle.theorems.proofs.Refusals.{why_of}
+use Rattle.theorems.proofs.Refusals.{why_of, found}
 use Rattle.doors.specs.Wrong.{Evaluator, RefusesEverything, EmitsTrueIntro, WritesNothing, SpendsTheBudget, InfersItsWork, LeavesEvaluationScratch, RunsFirstStep, BelievesAnnounced, WritesWhatFits, AcceptsWhatIsThere, Evaluating, Checker, AcceptsAll, RefusesAll, IgnoresBase, IgnoresConclusion, CountsNone, LeavesCheckScratch}
 
 -- bytes end before a number; and an output that is too short
@@ -106,6 +108,11 @@ unfoldable pub ran : Out Derived → List ℕ → List (List ℕ) → Evaluating
 ran (out d w) out₀ bs₀ = record { answer = accepted_with 0 (record { 0 = 0 }) (record { 0 = 0 }); output = fronted (certificate d) out₀; scratch = bs₀ }
 ran (stop n k) out₀ bs₀ = record { answer = Err (record { 0 = why_of n; 1 = k }); output = out₀; scratch = bs₀ }
 
+-- it hands on a refusal, number and place
+pub ran_refuses : (w : Why) (k : ℕ) (out₀ : List ℕ) (bs₀ : List (List ℕ)) → (ran (stop (number_of w) k) out₀ bs₀).answer ≡ Err (record { 0 = w; 1 = k })
+unfolding ran
+ran_refuses w k out₀ bs₀ = ap (λ (x : Why). Err (record { 0 = x; 1 = k })) (found w)
+
 unfoldable pub begun : Sheet → ℕ → Phrase → List ℕ → List (List ℕ) → Evaluating
 begun S budget (dedu (block j js)) out₀ bs₀ = ran (deduce S.phrases 63 empty S.base j budget) out₀ bs₀
 begun S budget (dedu (apply k ks)) out₀ bs₀ = refuser [] 0 out₀ bs₀
@@ -160,6 +167,11 @@ unfolding pick
 kept (accepted bytes w i) out₀ bs₀ =
     record { answer = pick (begins bytes out₀) (accepted_with (length bytes) (record { 0 = w }) (record { 0 = i })) (Err short); output = out₀; scratch = bs₀ }
 kept (refused n p) out₀ bs₀ = record { answer = Err (record { 0 = why_of n; 1 = p }); output = out₀; scratch = bs₀ }
+
+-- it hands on a refusal, number and place
+pub kept_refuses : (w : Why) (p : ℕ) (out₀ : List ℕ) (bs₀ : List (List ℕ)) → (kept (refused (number_of w) p) out₀ bs₀).answer ≡ Err (record { 0 = w; 1 = p })
+unfolding kept
+kept_refuses w p out₀ bs₀ = ap (λ (x : Why). Err (record { 0 = x; 1 = p })) (found w)
 
 abbrev keeper : Evaluator
 keeper s budget out₀ bs₀ = kept (answer s budget (length out₀)) out₀ bs₀

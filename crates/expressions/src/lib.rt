@@ -4,7 +4,7 @@
 // refused for want of room (specs/Meets.antt).
 #![tactic(auto)]
 
-ghost use Rattle.std.specs.Prelude.{◌≡◌, ℕ, ◌+◌, ◌-◌, ◌*◌, ◌<◌, ◌≤◌, length};
+ghost use Rattle.std.specs.Prelude.{◌≡◌, Err, ℕ, ◌+◌, ◌-◌, ◌*◌, ◌<◌, ◌≤◌, length};
 ghost use Rattle.std.proofs.lemmas.List.Edits.{sets};
 ghost use Rattle.language.specs.Run.{takes as arity};
 ghost use Rattle.records.specs.Rows.{sort_of};
@@ -16,6 +16,7 @@ ghost use Rattle.patterns.specs.Fitting.{ChosenSo};
 ghost use Rattle.expressions.specs.Machine.{reads, machine, Same, out_of, args_of, counters, kind, two, selfed, variable_of, part_of, chained, outermost, Made};
 ghost use Rattle.expressions.specs.Asked.{Ready, Arglist, Applicable, Matching, Bindable};
 ghost use Rattle.expressions.specs.Meets.{Evaluated, Stepped, Listed, Called, Selected};
+ghost use Rattle.language.specs.declared.refusal.Refusal.{Refusal};
 
 use bindings::{Binding, Closure, Value};
 use language::{Refusal, Remaining, Why};
@@ -44,9 +45,26 @@ pub struct Machine<'a> {
 }
 
 impl<'a> Machine<'a> {
-    // The value of expression k in the bindings at env, with so much nesting left; or the refusal.
-    #[cycle(evaluation)]
+    // The value of expression k in the bindings at env, with so much nesting left; or the refusal, and then the counts are as they were.
     pub fn evaluate(&mut self, env: usize, k: usize, depth: usize) -> Result<Value, Refusal>
+        requires { Ready (reads self.old) (machine self.old) env k 0 0 }
+        ensures same { Same self.old self.new }
+        ensures evaluated { Evaluated (reads self.old) depth env k (machine self.old) (out_of (machine self.new) result) }
+        ensures counts { (r : Refusal) → result ≡ Err r → self.new.state ≡ self.old.state }
+    {
+        let counts = self.state;
+        match self.enter(env, k, depth) {
+            Ok(v) => Ok(v),
+            Err(r) => {
+                self.state = counts;
+                Err(r)
+            }
+        }
+    }
+
+    // The same, but for the counts after a refusal.
+    #[cycle(evaluation)]
+    fn enter(&mut self, env: usize, k: usize, depth: usize) -> Result<Value, Refusal>
         requires { Ready (reads self.old) (machine self.old) env k 0 0 }
         ensures same { Same self.old self.new }
         ensures evaluated { Evaluated (reads self.old) depth env k (machine self.old) (out_of (machine self.new) result) }
@@ -76,7 +94,7 @@ impl<'a> Machine<'a> {
     {
         let operator = words::at(self.phrases, rows::PHRASE * k + 1);
         let count = words::at(self.phrases, rows::PHRASE * k + 2);
-        let v = self.evaluate(env, operator, depth)?;
+        let v = self.enter(env, operator, depth)?;
         let onto = bindings::scope(v);
         let from = rows::PHRASE * k + 3;
         let e = self.arguments(env, onto, from, count, depth)?;
@@ -101,7 +119,7 @@ impl<'a> Machine<'a> {
             return Ok(onto);
         }
         let k = words::at(self.phrases, from);
-        let v = self.evaluate(env, k, depth)?;
+        let v = self.enter(env, k, depth)?;
         self.state = bind_value(self.binds, self.state, v, onto);
         let top = self.state.bindings;
         self.arguments(env, top, from + 1, left - 1, depth)
@@ -129,7 +147,7 @@ impl<'a> Machine<'a> {
                     return Err(Refusal(Why::WrongCount, k));
                 }
                 let body = words::at(self.phrases, row + 2);
-                self.evaluate(e, body, depth)
+                self.enter(e, body, depth)
             }
             Value::Prop(_) | Value::Rule(_) | Value::Method(_) => Err(Refusal(Why::WrongKind, k)),
         }
@@ -144,10 +162,10 @@ impl<'a> Machine<'a> {
     {
         let first = words::at(self.phrases, rows::PHRASE * k + 1);
         let second = words::at(self.phrases, rows::PHRASE * k + 2);
-        let v = self.evaluate(env, first, depth)?;
+        let v = self.enter(env, first, depth)?;
         self.state = bind_value(self.binds, self.state, v, env);
         let top = self.state.bindings;
-        self.evaluate(top, second, depth)
+        self.enter(top, second, depth)
     }
 
     // A match: the value of the first phrase must be a proposition; the first clause whose pattern fits is run.
@@ -158,7 +176,7 @@ impl<'a> Machine<'a> {
         ensures stepped { Stepped (reads self.old) depth env k (machine self.old) (out_of (machine self.new) result) }
     {
         let subject = words::at(self.phrases, rows::PHRASE * k + 1);
-        let v = self.evaluate(env, subject, depth)?;
+        let v = self.enter(env, subject, depth)?;
         let Value::Prop(p) = v else {
             return Err(Refusal(Why::WrongKind, k));
         };
@@ -177,7 +195,7 @@ impl<'a> Machine<'a> {
         };
         let inner = bind_parts(self.binds, self.state.bindings, env, parts);
         self.state.bindings += parts.count;
-        self.evaluate(inner, body, depth)
+        self.enter(inner, body, depth)
     }
 
     // The first clause of the match k whose pattern fits the proposition p: its body and what the pattern binds.

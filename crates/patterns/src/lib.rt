@@ -56,8 +56,8 @@ pub fn tried(forms: &[u32], patterns: &[u32], q: usize, p: usize, before: Parts)
     }
 }
 
-// Whether pattern q fits the proposition p; what it binds is then added to the parts. They are lent: an `Option<Parts>` handed back from each part of
-// the pattern costs twice the time and twice the stack.
+// Whether pattern q fits the proposition p; what it binds is then added to the parts, which are open where it misses. They are lent: an `Option<Parts>`
+// handed back from each part of the pattern costs twice the time and twice the stack.
 fn fits(forms: &[u32], patterns: &[u32], q: usize, p: usize, parts: &mut Parts) -> bool
     requires { Tried forms.now patterns.now q p parts.old }
     ensures { FitsSo forms.now patterns.now q p parts.old (told result parts.new) }

@@ -26,7 +26,7 @@ by_number =
 abbrev pub why_of : ℕ → Why
 why_of n = get_or by_number n BudgetOver
 
-found : (w : Why) → why_of (number_of w) ≡ w
+pub found : (w : Why) → why_of (number_of w) ≡ w
 found BudgetOver = refl
 found ScratchShort = refl
 found BytesEnd = refl

@@ -16,8 +16,8 @@ use Rattle.records.proofs.PhraseNumbers.{phrase_not}
 use Rattle.records.specs.declared.phrase_kind.PhraseKind.TheVariants as kind
 use Rattle.deductions.proofs.Run.+deduction.Goals as goal
 
-pub announced-deduce-requires : goal.announced-deduce-requires
-announced-deduce-requires t c =
+pub announced-enter-requires : goal.announced-enter-requires
+announced-enter-requires t c =
     (omega (arith, c.decreases), by_ready _ c.args.site.depth _ _ _ _ _ _ c.requires.1 c.at-f.ensures c.at-d.ensures c.requires.0)
 
 pub announced-evaluate-requires : goal.announced-evaluate-requires
@@ -48,8 +48,8 @@ bind-either-requires t c =
 pub bind-bind_value-self-requires : goal.bind-bind_value-self-requires
 bind-bind_value-self-requires t c = let_value_fits _ _ _ _ _ _ _ _ (held _ _ _ _ _ _ _ _ _ _ _ _ _ _ c.requires.0 (let_first _ c.args.site.depth _ _ _ _ c.requires.1 _ _ c.at-f.ensures c.at-d.ensures _ _ _ _ c.requires.0) c.in_ok-v.ensures.fetched)
 
-pub bind-deduce-requires : goal.bind-deduce-requires
-bind-deduce-requires t c =
+pub bind-enter-requires : goal.bind-enter-requires
+bind-enter-requires t c =
     let s = c.in_ok-v.ensures.same in
     (omega (arith, c.decreases), rw (s.phrases, s.patterns, c.join.ensures.0, c.join.ensures.1, c.bind_value-self.ensures.0, c.bind_value-self.ensures.1) (let_ready _ c.args.site.depth _ _ _ _ c.requires.1 _ _ c.at-f.ensures c.at-d.ensures _ _ _ c.requires.0 (held _ _ _ _ _ _ _ _ _ _ _ _ _ _ c.requires.0 (let_first _ c.args.site.depth _ _ _ _ c.requires.1 _ _ c.at-f.ensures c.at-d.ensures _ _ _ _ c.requires.0) c.in_ok-v.ensures.fetched)))
 
@@ -61,7 +61,7 @@ bind-join-requires t c =
 pub bind-returns-clause-stepped : goal.bind-returns-clause-stepped
 bind-returns-clause-stepped t c =
     let s = c.in_ok-v.ensures.same in
-    let_is _ _ _ _ _ _ c.requires.1 _ _ c.at-f.ensures c.at-d.ensures _ _ _ _ c.requires.0 c.in_ok-v.ensures.fetched (rw (s.phrases, s.patterns, c.join.ensures.0, c.join.ensures.1, c.bind_value-self.ensures.0, c.bind_value-self.ensures.1) at c.deduce.ensures.deduced)
+    let_is _ _ _ _ _ _ c.requires.1 _ _ c.at-f.ensures c.at-d.ensures _ _ _ _ c.requires.0 c.in_ok-v.ensures.fetched (rw (s.phrases, s.patterns, c.join.ensures.0, c.join.ensures.1, c.bind_value-self.ensures.0, c.bind_value-self.ensures.1) at c.enter.ensures.deduced)
 
 pub bind-returns-in_err-v-clause-stepped : goal.bind-returns-in_err-v-clause-stepped
 bind-returns-in_err-v-clause-stepped t c =
@@ -79,8 +79,8 @@ block-returns-clause-stepped t c =
     let steps' = c.steps in
     block_is _ _ _ _ _ _ _ _ c.requires.1 at1.ensures steps'.ensures.stepping
 
-pub steps-deduce-requires : goal.steps-deduce-requires
-steps-deduce-requires t c =
+pub steps-enter-requires : goal.steps-enter-requires
+steps-enter-requires t c =
     let at1 = c.at-k in
     (omega (arith, c.decreases), (last_ready _ _ _ _ _ _ _ at1.ensures c.requires, step_kind _ _ _ _ _ _ _ at1.ensures c.requires))
 
@@ -88,8 +88,8 @@ pub steps-returns-then-left-eq1-clause-stepping : goal.steps-returns-then-left-e
 steps-returns-then-left-eq1-clause-stepping t c =
     let at1 = c.at-k in
     let if1 = c.if-left-eq1 in
-    let deduce' = c.deduce in
-    last_step _ _ _ _ _ _ _ at1.ensures _ _ if1.true deduce'.ensures.deduced
+    let enter' = c.enter in
+    last_step _ _ _ _ _ _ _ at1.ensures _ _ if1.true enter'.ensures.deduced
 
 pub steps-either-requires : goal.steps-either-requires
 steps-either-requires t c =
@@ -116,8 +116,8 @@ steps-returns-in_err-l-clause-stepping t c =
     let e = err_from_is_err_and c.from_residual.result c.from_residual.ensures.1 in
     rw (e.1, e.2) (step_fails _ _ _ _ _ _ _ c.at-k.ensures _ _ _ c.requires c.if-left-eq1.false c.in_err-l.ensures.fetched)
 
-pub apply-deduce-requires : goal.apply-deduce-requires
-apply-deduce-requires t c =
+pub apply-enter-requires : goal.apply-enter-requires
+apply-enter-requires t c =
     (omega (arith, c.decreases), method_ready _ _ _ _ _ _ _ c.in-Method.is _ c.at-body.ensures c.requires)
 
 pub apply-returns-then-at-n-clause-applying : goal.apply-returns-then-at-n-clause-applying
@@ -127,7 +127,7 @@ pub apply-returns-in-Prop-clause-applying : goal.apply-returns-in-Prop-clause-ap
 apply-returns-in-Prop-clause-applying t c = other_applied _ _ _ _ _ _ _ _ c.in-Prop.is
 
 pub apply-returns-else-at-n-clause-applying : goal.apply-returns-else-at-n-clause-applying
-apply-returns-else-at-n-clause-applying t c = method_applied _ _ _ _ _ _ _ c.in-Method.is _ _ _ _ _ c.at.ensures c.if-at-n.false c.at-body.ensures c.deduce.ensures.deduced
+apply-returns-else-at-n-clause-applying t c = method_applied _ _ _ _ _ _ _ c.in-Method.is _ _ _ _ _ c.at.ensures c.if-at-n.false c.at-body.ensures c.enter.ensures.deduced
 
 pub apply-overflow_mul-row : goal.apply-overflow_mul-row
 apply-overflow_mul-row t c = let s = method_small _ _ _ _ _ _ _ c.in-Method.is c.requires in omega (arith, s)
@@ -213,27 +213,27 @@ called-returns-in_err-env-clause-calling t c =
     let e = err_from_is_err_and c.from_residual.result c.from_residual.ensures.1 in
     rw (e.1, e.2) (called_fails _ _ _ _ _ _ _ _ c.requires _ _ (rw c.scope-onto.ensures at c.in_err-env.ensures.listed))
 
-pub deduce-returns-then-site-eq0-clause-deduced : goal.deduce-returns-then-site-eq0-clause-deduced
-deduce-returns-then-site-eq0-clause-deduced t c = too_deep _ _ _ _ _ _ c.if-remaining-eq0.false c.if-site-eq0.true
+pub enter-returns-then-site-eq0-clause-deduced : goal.enter-returns-then-site-eq0-clause-deduced
+enter-returns-then-site-eq0-clause-deduced t c = too_deep _ _ _ _ _ _ c.if-remaining-eq0.false c.if-site-eq0.true
 
-pub deduce-returns-clause-deduced : goal.deduce-returns-clause-deduced
-deduce-returns-clause-deduced t c = entered _ _ _ _ _ _ _ c.if-remaining-eq0.false c.if-site-eq0.false c.step.ensures.stepped
+pub enter-returns-clause-deduced : goal.enter-returns-clause-deduced
+enter-returns-clause-deduced t c = entered _ _ _ _ _ _ _ c.if-remaining-eq0.false c.if-site-eq0.false c.step.ensures.stepped
 
-pub deduce-returns-then-remaining-eq0-clause-deduced : goal.deduce-returns-then-remaining-eq0-clause-deduced
-deduce-returns-then-remaining-eq0-clause-deduced t c = spent_out _ _ _ _ _ _ c.if-remaining-eq0.true
+pub enter-returns-then-remaining-eq0-clause-deduced : goal.enter-returns-then-remaining-eq0-clause-deduced
+enter-returns-then-remaining-eq0-clause-deduced t c = spent_out _ _ _ _ _ _ c.if-remaining-eq0.true
 
 pub clause-overflow_add-self : goal.clause-overflow_add-self
 clause-overflow_add-self t c = let f = parts_fit _ _ _ _ _ _ _ refl c.requires.kind _ _ (rw c.in-Some.is at c.chosen.ensures) c.requires in omega (arith, f)
 
-pub clause-deduce-requires : goal.clause-deduce-requires
-clause-deduce-requires t c =
+pub clause-enter-requires : goal.clause-enter-requires
+clause-enter-requires t c =
     (omega (arith, c.decreases), clause_ready _ _ _ _ _ _ _ refl c.requires.kind _ _ (rw c.in-Some.is at c.chosen.ensures) _ _ c.bind_parts.ensures c.requires)
 
 pub clause-bind_parts-requires : goal.clause-bind_parts-requires
 clause-bind_parts-requires t c = parts_bindable _ _ _ _ _ _ _ refl c.requires.kind _ _ (rw c.in-Some.is at c.chosen.ensures) c.requires
 
 pub clause-returns-clause-selected : goal.clause-returns-clause-selected
-clause-returns-clause-selected t c = clause_runs _ _ _ _ _ _ _ refl c.requires.kind _ _ (rw c.in-Some.is at c.chosen.ensures) _ _ c.bind_parts.ensures _ _ c.requires c.deduce.ensures.deduced
+clause-returns-clause-selected t c = clause_runs _ _ _ _ _ _ _ refl c.requires.kind _ _ (rw c.in-Some.is at c.chosen.ensures) _ _ c.bind_parts.ensures _ _ c.requires c.enter.ensures.deduced
 
 pub clause-returns-in_default-clause-selected : goal.clause-returns-in_default-clause-selected
 clause-returns-in_default-clause-selected t c = none_fits _ _ _ _ _ _ _ refl c.requires.kind _ (rw c.in_default.is at c.chosen.ensures)
@@ -343,12 +343,12 @@ suppose-returns-in_err-v-clause-stepped t c =
     let e = err_from_is_err_and c.from_residual.result c.from_residual.ensures.1 in
     rw (e.1, e.2) (hyp_refused _ _ _ _ _ _ _ _ _ (suppose_runs _ c.args.site.depth _ _ _ _ _ _ c.requires.1 c.at-f.ensures c.at-d.ensures) _ _ c.in_err-v.ensures.evaluated)
 
-pub under-deduce-requires : goal.under-deduce-requires
-under-deduce-requires t c =
+pub under-enter-requires : goal.under-enter-requires
+under-enter-requires t c =
     (omega (arith, c.decreases), (rw (c.put.ensures, c.hypothesis-self.ensures.0, c.hypothesis-self.ensures.1) (under_ready _ 0 _ _ _ _ _ c.requires), c.requires.kind))
 
 pub under-returns-clause-supposing : goal.under-returns-clause-supposing
-under-returns-clause-supposing t c = under_is _ _ _ _ _ _ _ _ c.requires (rw (c.put.ensures, c.hypothesis-self.ensures.0, c.hypothesis-self.ensures.1) at c.deduce.ensures.deduced)
+under-returns-clause-supposing t c = under_is _ _ _ _ _ _ _ _ c.requires (rw (c.put.ensures, c.hypothesis-self.ensures.0, c.hypothesis-self.ensures.1) at c.enter.ensures.deduced)
 
 pub step-matched-requires : goal.step-matched-requires
 step-matched-requires t c =

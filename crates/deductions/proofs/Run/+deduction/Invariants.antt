@@ -30,8 +30,8 @@ decreases-called l = 32 * l.site.depth + 9
 abbrev pub decreases-clause : goal.decreases-clause
 decreases-clause l = 32 * l.site.depth + 1
 
-abbrev pub decreases-deduce : goal.decreases-deduce
-decreases-deduce l = 32 * l.site.depth
+abbrev pub decreases-enter : goal.decreases-enter
+decreases-enter l = 32 * l.site.depth
 
 abbrev pub decreases-either : goal.decreases-either
 decreases-either l = 32 * l.site.depth + 1

@@ -9,8 +9,8 @@ use Rattle.expressions.proofs.Steps.{ready_at, ready_push, push_fits, got, let_f
 use Rattle.expressions.proofs.Matches.{parts_bindable, clause_ready, clause_runs, none_fits, subject_is, subject_refused, subject_other, other_kind, matching, match_is}
 use Rattle.expressions.proofs.Machine.+evaluation.Goals as goal
 
-pub apply-evaluate-requires : goal.apply-evaluate-requires
-apply-evaluate-requires t c =
+pub apply-enter-requires : goal.apply-enter-requires
+apply-enter-requires t c =
     (omega (arith, c.requires), function_ready _ _ _ _ _ _ _ c.requires c.in-Function.is c.at-body.ensures)
 
 pub apply-returns-in-Prop : goal.apply-returns-in-Prop
@@ -29,13 +29,13 @@ pub apply-returns-then-at-n-clause-called : goal.apply-returns-then-at-n-clause-
 apply-returns-then-at-n-clause-called t c = function_miscounted _ _ _ _ _ _ _ _ _ c.in-Function.is c.at.ensures c.if-at-n.true
 
 pub apply-returns-else-at-n-clause-called : goal.apply-returns-else-at-n-clause-called
-apply-returns-else-at-n-clause-called t c = function_called _ _ _ _ _ _ _ _ _ _ _ c.in-Function.is c.at.ensures c.if-at-n.false c.at-body.ensures c.evaluate.ensures.evaluated
+apply-returns-else-at-n-clause-called t c = function_called _ _ _ _ _ _ _ _ _ _ _ c.in-Function.is c.at.ensures c.if-at-n.false c.at-body.ensures c.enter.ensures.evaluated
 
 pub arguments-returns-then-left-eq0-clause-listed : goal.arguments-returns-then-left-eq0-clause-listed
 arguments-returns-then-left-eq0-clause-listed t c = none_left _ _ _ _ _ _ _ c.if-left-eq0.true
 
-pub arguments-evaluate-requires : goal.arguments-evaluate-requires
-arguments-evaluate-requires t c =
+pub arguments-enter-requires : goal.arguments-enter-requires
+arguments-enter-requires t c =
     (omega (arith, c.requires), argument_ready _ _ _ _ _ _ _ c.if-left-eq0.false c.at-k.ensures c.requires)
 
 pub arguments-bind_value-self-requires : goal.arguments-bind_value-self-requires
@@ -73,8 +73,8 @@ arguments-returns-in_err-v-clause-listed t c =
     let e = err_from_is_err_and c.from_residual.result c.from_residual.ensures.1 in
     rw (e.1, e.2) (argument_refused _ _ _ _ _ _ _ _ _ _ c.if-left-eq0.false c.at-k.ensures c.in_err-v.ensures.evaluated)
 
-pub bind-evaluate-requires : goal.bind-evaluate-requires
-bind-evaluate-requires t c =
+pub bind-enter-requires : goal.bind-enter-requires
+bind-enter-requires t c =
     (omega (arith, c.requires), ready_at _ _ _ _ _ 4 4 0 0 c.requires.0 (let_first _ _ _ _ _ 4 4 c.requires.1 c.at-first.ensures c.requires.0) (omega arith) (omega arith))
 
 pub bind-bind_value-self-requires : goal.bind-bind_value-self-requires
@@ -83,8 +83,8 @@ bind-bind_value-self-requires t c =
     let G = got _ _ _ _ _ 4 4 _ _ _ c.requires.0 (let_first _ _ _ _ _ 4 4 c.requires.1 c.at-first.ensures c.requires.0) A in
     push_fits _ _ _ _ _ 4 3 G
 
-pub bind-evaluate-requires-2 : goal.bind-evaluate-requires-2
-bind-evaluate-requires-2 t c =
+pub bind-enter-requires-2 : goal.bind-enter-requires-2
+bind-enter-requires-2 t c =
     let s = c.in_ok-v.ensures.same in
     let A = c.in_ok-v.ensures.evaluated in
     let G = got _ _ _ _ _ 4 4 _ _ _ c.requires.0 (let_first _ _ _ _ _ 4 4 c.requires.1 c.at-first.ensures c.requires.0) A in
@@ -98,7 +98,7 @@ bind-returns-clause-stepped t c =
     let bind_value = c.bind_value-self in
     let at2 = c.at-second in
     let A = c.in_ok-v.ensures.evaluated in
-    let B = rw (s.phrases, s.patterns, bind_value.ensures.0, bind_value.ensures.1) at c.evaluate-2.ensures.evaluated in
+    let B = rw (s.phrases, s.patterns, bind_value.ensures.0, bind_value.ensures.1) at c.enter-2.ensures.evaluated in
     let_is _ _ _ _ _ c.requires.1 _ at1.ensures _ _ _ _ at2.ensures c.requires.0 A B
 
 pub bind-returns-in_err-v-clause-stepped : goal.bind-returns-in_err-v-clause-stepped
@@ -106,8 +106,8 @@ bind-returns-in_err-v-clause-stepped t c =
     let e = err_from_is_err_and c.from_residual.result c.from_residual.ensures.1 in
     rw (e.1, e.2) (let_refused _ _ _ _ _ c.requires.1 _ c.at-first.ensures _ _ c.in_err-v.ensures.evaluated)
 
-pub call-evaluate-requires : goal.call-evaluate-requires
-call-evaluate-requires t c =
+pub call-enter-requires : goal.call-enter-requires
+call-enter-requires t c =
     (omega (arith, c.requires), ready_at _ _ _ _ _ 4 4 0 0 c.requires.0 (operator_is _ _ _ _ c.requires.1 _ 4 4 c.at-operator.ensures c.requires.0) (omega arith) (omega arith))
 
 pub call-arguments-requires : goal.call-arguments-requires
@@ -168,8 +168,8 @@ clause-overflow_add-self t c =
     let r = b.room in
     let s = b.short in omega (arith, r, s)
 
-pub clause-evaluate-requires : goal.clause-evaluate-requires
-clause-evaluate-requires t c =
+pub clause-enter-requires : goal.clause-enter-requires
+clause-enter-requires t c =
     let C = rw c.in-Some.is at c.chosen.ensures in
     (omega (arith, c.requires), clause_ready _ _ _ _ _ _ refl _ _ C _ _ c.bind_parts-inner.ensures c.requires)
 
@@ -178,31 +178,31 @@ clause-returns-clause-selected t c =
     let bind_parts = c.bind_parts-inner in
     let C = rw c.in-Some.is at c.chosen.ensures in
     let b = parts_bindable _ _ _ _ _ _ refl _ _ C c.requires in
-    clause_runs _ _ _ _ _ _ refl _ _ C _ _ bind_parts.ensures _ _ b.room c.evaluate.ensures.evaluated
+    clause_runs _ _ _ _ _ _ refl _ _ C _ _ bind_parts.ensures _ _ b.room c.enter.ensures.evaluated
 
 pub clause-returns-in_default-clause-selected : goal.clause-returns-in_default-clause-selected
 clause-returns-in_default-clause-selected t c = none_fits _ _ _ _ _ _ refl _ (rw c.in_default.is at c.chosen.ensures)
 
-pub evaluate-returns-then-depth-eq0-clause-evaluated : goal.evaluate-returns-then-depth-eq0-clause-evaluated
-evaluate-returns-then-depth-eq0-clause-evaluated t c = too_deep _ _ _ _ _ c.if-remaining-eq0.false c.if-depth-eq0.true
+pub enter-returns-then-depth-eq0-clause-evaluated : goal.enter-returns-then-depth-eq0-clause-evaluated
+enter-returns-then-depth-eq0-clause-evaluated t c = too_deep _ _ _ _ _ c.if-remaining-eq0.false c.if-depth-eq0.true
 
-pub evaluate-returns-then-remaining-eq0-clause-evaluated : goal.evaluate-returns-then-remaining-eq0-clause-evaluated
-evaluate-returns-then-remaining-eq0-clause-evaluated t c = spent_out _ _ _ _ _ c.if-remaining-eq0.true
+pub enter-returns-then-remaining-eq0-clause-evaluated : goal.enter-returns-then-remaining-eq0-clause-evaluated
+enter-returns-then-remaining-eq0-clause-evaluated t c = spent_out _ _ _ _ _ c.if-remaining-eq0.true
 
-pub evaluate-returns-in-Some-Call-clause-evaluated : goal.evaluate-returns-in-Some-Call-clause-evaluated
-evaluate-returns-in-Some-Call-clause-evaluated t c = entered _ _ _ _ _ _ c.if-remaining-eq0.false c.if-depth-eq0.false c.call.ensures.stepped
+pub enter-returns-in-Some-Call-clause-evaluated : goal.enter-returns-in-Some-Call-clause-evaluated
+enter-returns-in-Some-Call-clause-evaluated t c = entered _ _ _ _ _ _ c.if-remaining-eq0.false c.if-depth-eq0.false c.call.ensures.stepped
 
-pub evaluate-returns-in-Some-Let-clause-evaluated : goal.evaluate-returns-in-Some-Let-clause-evaluated
-evaluate-returns-in-Some-Let-clause-evaluated t c = entered _ _ _ _ _ _ c.if-remaining-eq0.false c.if-depth-eq0.false c.bind.ensures.stepped
+pub enter-returns-in-Some-Let-clause-evaluated : goal.enter-returns-in-Some-Let-clause-evaluated
+enter-returns-in-Some-Let-clause-evaluated t c = entered _ _ _ _ _ _ c.if-remaining-eq0.false c.if-depth-eq0.false c.bind.ensures.stepped
 
-pub evaluate-returns-in-Some-Match-clause-evaluated : goal.evaluate-returns-in-Some-Match-clause-evaluated
-evaluate-returns-in-Some-Match-clause-evaluated t c = entered _ _ _ _ _ _ c.if-remaining-eq0.false c.if-depth-eq0.false c.matched.ensures.stepped
+pub enter-returns-in-Some-Match-clause-evaluated : goal.enter-returns-in-Some-Match-clause-evaluated
+enter-returns-in-Some-Match-clause-evaluated t c = entered _ _ _ _ _ _ c.if-remaining-eq0.false c.if-depth-eq0.false c.matched.ensures.stepped
 
-pub evaluate-returns-in_default-clause-evaluated : goal.evaluate-returns-in_default-clause-evaluated
-evaluate-returns-in_default-clause-evaluated t c = entered _ _ _ _ _ _ c.if-remaining-eq0.false c.if-depth-eq0.false (c.plain.ensures.stepped _)
+pub enter-returns-in_default-clause-evaluated : goal.enter-returns-in_default-clause-evaluated
+enter-returns-in_default-clause-evaluated t c = entered _ _ _ _ _ _ c.if-remaining-eq0.false c.if-depth-eq0.false (c.plain.ensures.stepped _)
 
-pub matched-evaluate-requires : goal.matched-evaluate-requires
-matched-evaluate-requires t c =
+pub matched-enter-requires : goal.matched-enter-requires
+matched-enter-requires t c =
     (omega (arith, c.requires), ready_at _ _ _ _ _ 4 4 0 0 c.requires.0 (subject_is _ _ _ _ _ 4 4 c.requires.1 c.at-subject.ensures c.requires.0) (omega arith) (omega arith))
 
 pub matched-returns-in_default-clause-stepped : goal.matched-returns-in_default-clause-stepped

@@ -18,8 +18,8 @@ decreases-call l = 16 * l.depth + 8
 abbrev pub decreases-clause : goal.decreases-clause
 decreases-clause l = 16 * l.depth + 1
 
-abbrev pub decreases-evaluate : goal.decreases-evaluate
-decreases-evaluate l = 16 * l.depth
+abbrev pub decreases-enter : goal.decreases-enter
+decreases-enter l = 16 * l.depth
 
 abbrev pub decreases-matched : goal.decreases-matched
 decreases-matched l = 16 * l.depth + 2
