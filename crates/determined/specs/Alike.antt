@@ -1,5 +1,6 @@
 -- What the two evaluating functions leave open. Their answer and what is left of the budget are fixed, and what table, bindings and tokens stand for;
--- not the numbers in them, nor what stands past the base that was given. After a refusal only its number and place are fixed: the doors wipe the rest.
+-- not the numbers in them, nor what stands past the base that was given. After a refusal its number and place are fixed, and the counts
+-- by the contracts' own clauses: the doors wipe the rest.
 use Rattle.std.specs.Prelude.{ℕ, ◌≡◌, List, ◌++◌, take}
 use Rattle.language.specs.Form.{Form}
 use Rattle.language.specs.Values.{Val}
